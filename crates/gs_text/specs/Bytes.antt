@@ -1,0 +1,15 @@
+-- The classes of bytes. White is the same in all formats; words of Verilog are made of the bytes of IEEE 1364-2005's
+-- simple identifiers.
+use Rattle.std.specs.Prelude.{ℕ, Bool, ◌==◌, ◌||◌, ◌&&◌, nat_le}
+
+-- space, tab, carriage return, form feed and newline
+abbrev pub is_white : ℕ → Bool
+is_white c = c == 32 || c == 9 || c == 13 || c == 12 || c == 10
+
+abbrev pub is_digit : ℕ → Bool
+is_digit c = nat_le 48 c && nat_le c 57
+
+-- letters, digits, underscore and dollar
+abbrev pub is_word_byte : ℕ → Bool
+is_word_byte c =
+    nat_le 97 c && nat_le c 122 || nat_le 65 c && nat_le c 90 || is_digit c || c == 95 || c == 36

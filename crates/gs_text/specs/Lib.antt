@@ -1,0 +1,4 @@
+pub mod Bytes
+pub mod Cut
+pub mod Front
+pub mod Pieces
