@@ -2,6 +2,7 @@
 use Rattle.std.specs.Prelude.{ℕ, ◌+◌, ◌<◌, ◌≤◌, Bool, ◌==◌, ◌||◌, ◌&&◌, nat_lt, List, [], ◌∷◌, drop, slice_index, if◌then◌else◌}
 use Rattle.std.specs.List.{prefix_len}
 use Rattle.gs_text.specs.Bytes.{is_white, is_digit, is_word_byte}
+use Rattle.gs_text.specs.Pieces.{opening_len, closing_len}
 use Rattle.gs_text.specs.declared.kinds.Kind.TheVariants.{Word, Mark}
 use Rattle.gs_text.specs.declared.kinds.Style.{Style}
 use Rattle.gs_text.specs.declared.kinds.Style.TheVariants.{Verilog}
@@ -36,8 +37,8 @@ front Verilog c cs =
     else if begins_unbuilt c cs then NotBuilt
     else Found Mark 1
 
--- a piece that is found has a byte, and ends within so many
+-- a piece that is found has a byte and room for its quotes, and takes at most so many
 abbrev pub FitsIn : ℕ → Front → Type 0
 FitsIn n Gap = Unit {0}
-FitsIn n (Found kind len) = (0 < len) × (len ≤ n)
+FitsIn n (Found kind len) = (opening_len kind + closing_len kind ≤ len) × (0 < len) × (len ≤ n)
 FitsIn n NotBuilt = Unit {0}

@@ -138,7 +138,8 @@ fn begins(style: Style, byte: u8, rest: &[u8]) -> Front
 /// The line after `byte`.
 fn line_after(byte: u8, line: u32) -> u32
     requires { line < 2 ^ 31 }
-    ensures { result ≡ line_after byte line }
+    ensures value { result ≡ line_after byte line }
+    ensures within { result ≤ line + 1 }
 {
     if byte == b'\n' { line + 1 } else { line }
 }
