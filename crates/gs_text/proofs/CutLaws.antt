@@ -77,11 +77,11 @@ module _ (style : Style) (bs : List ℕ) (at line : ℕ) (found : List Piece) (l
       let p : Piece = piece_at kind at len line in
       let size : length (byte ∷ rest) ≡ length bs - at = sym (ap length split) ∙ length-drop at bs in
       let step : cut style line at 0 (byte ∷ rest) ≡ onto (p ∷ []) (cut style (line + breaks (take len (byte ∷ rest))) (at + len) 0 (drop len (byte ∷ rest))) =
-          cut_found style line at byte rest kind len e pos (omega arith) in
+      cut_found style line at byte rest kind len e pos (omega arith) in
       let step' : cut style line at 0 (drop at bs) ≡ onto (p ∷ []) (cut style (line + breaks (take len (drop at bs))) (at + len) 0 (drop len (drop at bs))) =
-          rw split step in
+      rw split step in
       let later : cut style (line + breaks (take len (drop at bs))) (at + len) 0 (drop len (drop at bs)) ≡ cut style (line + breaks (take len (drop at bs))) (at + len) 0 (drop (at + len) bs) =
-          ap (λ r. cut style (line + breaks (take len (drop at bs))) (at + len) 0 r) (drop-drop len at bs) in
+      ap (λ r. cut style (line + breaks (take len (drop at bs))) (at + len) 0 r) (drop-drop len at bs) in
       onto-append found (p ∷ []) (cut style (line + breaks (take len (drop at bs))) (at + len) 0 (drop (at + len) bs)) ∙ cc (so_far, step', later)
 
   pub not_built : NotBuilt ≡ front style byte rest → pieces style bs ≡ Err (TextErr.NotBuilt at)

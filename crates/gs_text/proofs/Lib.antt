@@ -1,2 +1,3 @@
 pub mod CutLaws
-pub mod Inside
+pub mod Follow
+pub mod FrontLaws

@@ -1,5 +1,7 @@
 -- Where a piece lies, and what it stands for.
-use Rattle.std.specs.Prelude.{ℕ, ◌+◌, ◌-◌, ◌<◌, ◌≤◌, List, slice_range}
+use Rattle.std.specs.Prelude.{◌≡◌, ℕ, ◌+◌, ◌-◌, ◌<◌, ◌≤◌, false, List, [], ◌∷◌, length, slice_range}
+use Rattle.std.specs.List.{All}
+use Rattle.gs_text.specs.Bytes.{is_white}
 use Rattle.gs_text.specs.declared.kinds.Kind.{Kind}
 use Rattle.gs_text.specs.declared.kinds.Kind.TheVariants.{Word, Escaped, Text, Mark}
 use Rattle.gs_text.specs.declared.kinds.Piece.{Piece}
@@ -27,3 +29,20 @@ pub record LiesIn (total : ℕ) (p : Piece) : Type 0 where
 -- the bytes that a piece stands for
 abbrev pub text_of : List ℕ → Piece → List ℕ
 text_of bytes p = slice_range bytes (p.from + opening_len p.kind) (p.to - closing_len p.kind)
+
+-- the bytes are at least one, and none is white
+pub record IsUnbroken (text : List ℕ) : Type 0 where
+  pub some : 0 < length text
+  pub solid : All (λ c. is_white c ≡ false) text
+
+-- the text of a word or an escaped name is unbroken
+abbrev pub HasGoodText : Kind → List ℕ → Type 0
+HasGoodText Word text = IsUnbroken text
+HasGoodText Escaped text = IsUnbroken text
+HasGoodText Text text = Unit {0}
+HasGoodText Mark text = Unit {0}
+
+-- the pieces follow one another, none before place at
+abbrev pub InOrder : (at : ℕ) → List Piece → Type 0
+InOrder at [] = Unit {0}
+InOrder at (p ∷ ps) = (at ≤ p.from) × InOrder p.to ps

@@ -45,6 +45,7 @@ pub enum TextErr {
 impl<T: Drop> From<AllocFailed<T>> for TextErr {
     ghost use Rattle.std.specs.Prelude.{◌≡◌};
     ghost use Rattle.gs_text.specs.declared.kinds.TextErr.{TextErr};
+
     ghost from_gives = { λ _ error. error ≡ TextErr.Mem };
 
     fn from(_error: AllocFailed<T>) -> TextErr {

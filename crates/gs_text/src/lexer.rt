@@ -6,7 +6,7 @@ ghost use Rattle.std.specs.List.{All, count_by, prefix_len};
 ghost use Rattle.gs_text.specs.Bytes.{is_digit, is_white, is_word_byte};
 ghost use Rattle.gs_text.specs.Cut.{Fails, line_after, pieces};
 ghost use Rattle.gs_text.specs.Front.{FitsIn, begins_unbuilt, closed_len, front, index_len, word_len};
-ghost use Rattle.gs_text.specs.Pieces.{LiesIn, closing_len, opening_len, text_of};
+ghost use Rattle.gs_text.specs.Pieces.{HasGoodText, InOrder, LiesIn, closing_len, opening_len, text_of};
 
 use crate::kinds::{Kind, Piece, Style, TextErr};
 use std::alloc::Global;
@@ -87,7 +87,11 @@ fn index_len(bytes: &[u8]) -> usize
     match bytes {
         [first, after @ ..] => {
             let len = closed_len(after);
-            if *first == b'[' && len > 0 { len + 1 } else { 0 }
+            if *first == b'[' && len > 0 {
+                len + 1
+            } else {
+                0
+            }
         }
         [] => 0,
     }
@@ -164,6 +168,12 @@ pub fn pieces(alloc: Global, style: Style, bytes: &[u8]) -> Result<Vec<Piece>, T
     ensures exact { MatchResult result (λ v. pieces style bytes.now ≡ Ok v.items) (λ e. Fails e (pieces style bytes.now)) }
     // Each piece lies in the text.
     ensures inside { IfOk result (λ v. All (LiesIn (length bytes.now)) v.items) }
+    // The pieces stand in the text's order, and none overlaps the next.
+    ensures ordered { IfOk result (λ v. InOrder 0 v.items) }
+    // There are no more pieces than bytes.
+    ensures few { IfOk result (λ v. length v.items ≤ length bytes.now) }
+    // A word or an escaped name has a byte, and no white.
+    ensures solid { IfOk result (λ v. All (λ p. HasGoodText p.kind (text_of bytes.now p)) v.items) }
 {
     let mut found = Vec::new(alloc);
     let mut at = 0;
@@ -216,5 +226,72 @@ pub fn text_of<'a>(bytes: &'a [u8], piece: &Piece) -> &'a [u8]
     requires { LiesIn (length bytes.now) piece.now }
     ensures { result.now ≡ text_of bytes.now piece.now }
 {
-    &bytes[piece.from as usize + opening_len(piece.kind)..piece.to as usize - closing_len(piece.kind)]
+    &bytes[piece.from as usize + opening_len(piece.kind)..piece.to as usize
+        - closing_len(piece.kind)]
+}
+
+#[cfg(test)]
+mod tests {
+    use super::*;
+    use std::test::Fail;
+
+    const fn piece(kind: Kind, from: u32, to: u32, line: u32) -> Piece {
+        Piece {
+            kind,
+            from,
+            to,
+            line,
+        }
+    }
+
+    #[test]
+    fn verilog_words_take_an_index(rt: HostRuntime) -> Result<(), Fail> {
+        let found = pieces(rt.alloc(), Style::Verilog, b"a[]\n b_$[07]c ;\r\n[1]")?;
+        let wanted = [
+            piece(Kind::Word, 0, 1, 1),
+            piece(Kind::Mark, 1, 2, 1),
+            piece(Kind::Mark, 2, 3, 1),
+            piece(Kind::Word, 5, 12, 2),
+            piece(Kind::Word, 12, 13, 2),
+            piece(Kind::Mark, 14, 15, 2),
+            piece(Kind::Mark, 17, 18, 3),
+            piece(Kind::Word, 18, 19, 3),
+            piece(Kind::Mark, 19, 20, 3),
+        ];
+        assert_eq!(rt; found.as_slice(), wanted.as_slice());
+        Ok(())
+    }
+
+    #[test]
+    fn verilog_comments_and_escaped_names_are_not_built(rt: HostRuntime) {
+        let texts = [
+            (b"a / b \\c //".as_slice(), 6),
+            (b"a/b//c \\d".as_slice(), 3),
+            (b"/ /*".as_slice(), 2),
+            (b"\n\\".as_slice(), 1),
+        ];
+        for (text, at) in texts {
+            let refused =
+                matches!(pieces(rt.alloc(), Style::Verilog, text), Err(TextErr::NotBuilt { at: a }) if a == at);
+            assert!(rt; refused, "at {at}");
+        }
+        assert!(rt; pieces(rt.alloc(), Style::Verilog, b"a/b / c*/").is_ok());
+    }
+
+    #[test]
+    fn a_text_is_without_quotes_or_backslash(rt: HostRuntime) {
+        let bytes = b"\"ab\" \\cd e".as_slice();
+        assert_eq!(rt;
+            text_of(bytes, &piece(Kind::Text, 0, 4, 1)),
+            b"ab".as_slice()
+        );
+        assert_eq!(rt;
+            text_of(bytes, &piece(Kind::Escaped, 5, 8, 1)),
+            b"cd".as_slice()
+        );
+        assert_eq!(rt;
+            text_of(bytes, &piece(Kind::Word, 9, 10, 1)),
+            b"e".as_slice()
+        );
+    }
 }

@@ -1,14 +1,14 @@
 use Rattle.std.proofs.Common.{◌≡◌, ap, sym, ℕ, ◌+◌, ◌≤◌, arith, length, take}
 use Rattle.std.proofs.lemmas.List.{take-append-le}
 use Rattle.gs_text.proofs.CutLaws.{passes, finds, not_built, ends, length-rest, breaks_within, part}
-use Rattle.gs_text.proofs.Inside.{pieces_inside}
+use Rattle.gs_text.proofs.Follow.{pieces_inside, pieces_good, pieces_in_order, pieces_few}
 use Rattle.gs_text.proofs.lexer.pieces.Goals as goal
 
 pub loop-at-preserved-in-Gap : goal.loop-at-preserved-in-Gap
 loop-at-preserved-in-Gap c = record {
   within = omega arith;
   lines = omega arith;
-  so_far = rw c.line_after-line.ensures.value (passes c.args.style c.args.bytes.now c.loop-at.at c.loop-at.line c.loop-at.found.items c.loop-at-test.true c.loop-at.invariant.so_far c.in-Gap.ensures.value)
+  so_far = rw c.line_after-line.ensures.value (passes c.args.style c.args.bytes.now c.loop-at.at c.loop-at.line c.loop-at.found.items c.loop-at-test.true c.loop-at.invariant.so_far c.in-Gap.ensures.value);
 }
 
 pub loop-at-preserved : goal.loop-at-preserved
@@ -17,9 +17,9 @@ loop-at-preserved c = record {
   lines = omega (arith, breaks_within c.args.bytes.now c.loop-at.at c.in-Found.len c.line_breaks.result c.line_breaks.ensures.within);
   so_far =
       let fits : c.loop-at.at + c.in-Found.len ≤ length c.args.bytes.now =
-          omega (arith, c.in-Found.ensures.fits.2, length-rest c.args.bytes.now (c.loop-at.at + 1)) in
+      omega (arith, c.in-Found.ensures.fits.2, length-rest c.args.bytes.now (c.loop-at.at + 1)) in
       rw (c.in_ok-push-in-Found.ensures.items, c.line_breaks.ensures.value, part c.loop-at.at c.in-Found.len)
-          (finds c.args.style c.args.bytes.now c.loop-at.at c.loop-at.line c.loop-at.found.items c.loop-at-test.true c.loop-at.invariant.so_far c.in-Found.kind c.in-Found.len c.in-Found.ensures.value c.in-Found.ensures.fits.1 fits)
+      (finds c.args.style c.args.bytes.now c.loop-at.at c.loop-at.line c.loop-at.found.items c.loop-at-test.true c.loop-at.invariant.so_far c.in-Found.kind c.in-Found.len c.in-Found.ensures.value c.in-Found.ensures.fits.1 fits);
 }
 
 pub returns-in-NotBuilt-clause-exact : goal.returns-in-NotBuilt-clause-exact
@@ -30,6 +30,13 @@ pub returns-clause-exact : goal.returns-clause-exact
 returns-clause-exact c = ends c.args.style c.args.bytes.now c.loop-at.at c.loop-at.line c.loop-at.found.items c.loop-at-test.false c.loop-at.invariant.so_far
 
 pub returns-clause-inside : goal.returns-clause-inside
-returns-clause-inside c =
-    pieces_inside c.args.style c.args.bytes.now c.loop-at.found.items
-        (ends c.args.style c.args.bytes.now c.loop-at.at c.loop-at.line c.loop-at.found.items c.loop-at-test.false c.loop-at.invariant.so_far)
+returns-clause-inside c = pieces_inside c.args.style c.args.bytes.now c.loop-at.found.items (returns-clause-exact c)
+
+pub returns-clause-ordered : goal.returns-clause-ordered
+returns-clause-ordered c = pieces_in_order c.args.style c.args.bytes.now c.loop-at.found.items (returns-clause-exact c)
+
+pub returns-clause-few : goal.returns-clause-few
+returns-clause-few c = pieces_few c.args.style c.args.bytes.now c.loop-at.found.items (returns-clause-exact c)
+
+pub returns-clause-solid : goal.returns-clause-solid
+returns-clause-solid c = pieces_good c.args.style c.args.bytes.now c.loop-at.found.items (returns-clause-exact c)
