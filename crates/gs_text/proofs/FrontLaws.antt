@@ -1,5 +1,5 @@
 -- What is found at a byte ends within the text, and a word that is found has no white.
-use Rattle.std.proofs.Common.{◌≡◌, ◌∙◌, sym, ap, refl, ℕ, zero, suc, ◌+◌, ◌-◌, ◌<◌, ◌≤◌, ◌==◌, ◌&&◌, nat_lt, slice_index, get_or, length-drop, Bool, true, false, cond, List, [], ◌∷◌, length, take, drop, arith, inl, inr, subst}
+use Rattle.std.proofs.Common.{◌≡◌, ◌∙◌, ap, refl, ℕ, zero, suc, ◌+◌, ◌-◌, ◌<◌, ◌≤◌, ◌==◌, ◌&&◌, nat_lt, slice_index, get_or, length-drop, Bool, true, false, cond, List, [], ◌∷◌, length, drop, arith, inl, inr, subst}
 use Rattle.std.specs.List.{prefix_len}
 use Rattle.std.proofs.lemmas.Bool.Decides.{nat_tests}
 use Rattle.std.proofs.lemmas.Bool.{cases_lt}
@@ -7,7 +7,6 @@ use Rattle.std.proofs.lemmas.List.{get_or_past, get_or-drop}
 use Rattle.std.proofs.lemmas.List.Sums.{prefix_len-le-length, prefix_len_passes}
 use Rattle.gs_text.specs.Bytes.{is_white, is_digit, is_word_byte}
 use Rattle.gs_text.specs.Front.{front, FitsIn, word_len, index_len, closed_len, begins_unbuilt}
-use Rattle.gs_text.specs.declared.kinds.Kind.{Kind}
 use Rattle.gs_text.specs.declared.kinds.Kind.TheVariants.{Word, Escaped, Text, Mark}
 use Rattle.gs_text.specs.declared.kinds.Style.{Style}
 use Rattle.gs_text.specs.declared.kinds.Style.TheVariants.{Verilog}

@@ -226,8 +226,9 @@ pub fn text_of<'a>(bytes: &'a [u8], piece: &Piece) -> &'a [u8]
     requires { LiesIn (length bytes.now) piece.now }
     ensures { result.now ≡ text_of bytes.now piece.now }
 {
-    &bytes[piece.from as usize + opening_len(piece.kind)..piece.to as usize
-        - closing_len(piece.kind)]
+    let from = piece.from as usize + opening_len(piece.kind);
+    let to = piece.to as usize - closing_len(piece.kind);
+    &bytes[from..to]
 }
 
 #[cfg(test)]
@@ -235,7 +236,11 @@ mod tests {
     use super::*;
     use std::test::Fail;
 
-    const fn piece(kind: Kind, from: u32, to: u32, line: u32) -> Piece {
+    fn piece(kind: Kind, from: u32, to: u32, line: u32) -> Piece
+        ensures kind { result.kind ≡ kind }
+        ensures from { result.from ≡ from }
+        ensures to { result.to ≡ to }
+    {
         Piece {
             kind,
             from,

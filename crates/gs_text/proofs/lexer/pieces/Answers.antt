@@ -1,5 +1,4 @@
-use Rattle.std.proofs.Common.{◌≡◌, ap, sym, ℕ, ◌+◌, ◌≤◌, arith, length, take}
-use Rattle.std.proofs.lemmas.List.{take-append-le}
+use Rattle.std.proofs.Common.{◌+◌, ◌≤◌, arith, length}
 use Rattle.gs_text.proofs.CutLaws.{passes, finds, not_built, ends, length-rest, breaks_within, part}
 use Rattle.gs_text.proofs.Follow.{pieces_inside, pieces_good, pieces_in_order, pieces_few}
 use Rattle.gs_text.proofs.lexer.pieces.Goals as goal
