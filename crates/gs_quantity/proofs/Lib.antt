@@ -1,0 +1,4 @@
+pub mod Digits
+pub mod Rounding
+pub mod Scaling
+pub mod Printing

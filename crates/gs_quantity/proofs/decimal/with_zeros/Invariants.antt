@@ -1,0 +1,5 @@
+use Rattle.std.proofs.Common.{◌≡◌, ◌*◌, ◌^◌, ◌<◌}
+use Rattle.gs_quantity.proofs.decimal.with_zeros.Given as goal
+
+abbrev pub invariant-loop-step : goal.invariant-loop-step
+invariant-loop-step l = (l.longer ≡ l.magnitude * 10 ^ l._step) × (l.longer < 1099511627776)
