@@ -1,0 +1,5 @@
+pub mod Faults
+pub mod Files
+pub mod Lists
+pub mod Memory
+pub mod Whole
