@@ -1,0 +1,13 @@
+pub mod Agree
+pub mod Classes
+pub mod Complete
+pub mod Finish
+pub mod Fits
+pub mod Folds
+pub mod Indexes
+pub mod Laws
+pub mod Left
+pub mod Numbers
+pub mod Reading
+pub mod Rules
+pub mod Sound

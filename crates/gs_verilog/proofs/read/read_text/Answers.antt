@@ -1,0 +1,11 @@
+use Rattle.std.proofs.Common.{sym, subst}
+use Rattle.gs_verilog.specs.Machine.{Fails, outcome}
+use Rattle.gs_verilog.proofs.Reading.{answers_pieces, unread_fails}
+use Rattle.gs_verilog.proofs.read.read_text.Goals as goal
+
+pub returns-in-Ok : goal.returns-in-Ok
+returns-in-Ok c = answers_pieces c.args.bytes.now c.in-Ok.found.items c.as_slice.result.now c.read_pieces.result c.in-Ok.ensures.exact c.as_slice.ensures.value c.read_pieces.ensures
+
+pub returns-in-Err : goal.returns-in-Err
+returns-in-Err c =
+    subst (λ e. Fails e (outcome c.args.bytes.now)) (sym c.unread.ensures) (unread_fails c.args.bytes.now c.in-Err.error c.in-Err.ensures.exact)

@@ -1,0 +1,81 @@
+-- The maps of the reader: where each name of the circuit so far is found.
+
+use Rattle.std.specs.Prelude.{◌≡◌, ℕ, ◌≤◌, ◌==◌, Bool, true, false, List, length, Option, None, Some, Result, Err, eqb, if◌then◌else◌}
+use Rattle.std.specs.BTreeMap.{get_by}
+use Rattle.std.specs.BTreeSet.{contains}
+use Rattle.std.specs.Cmp.Lexicographic.{slice_cmp}
+use Rattle.std.specs.List.{list_any}
+use Rattle.std.specs.Option.{is_some}
+use Rattle.std.specs.Ordering.{nat_cmp}
+use Rattle.std.specs.Str.{bytes_eq}
+use Rattle.gs_verilog.specs.Circuit.{Circuit}
+use Rattle.gs_verilog.specs.Machine.{State, Fault, Bad, Twice, with_net, with_link, has_inst, last_has}
+use Rattle.gs_verilog.specs.Text.{number}
+use Rattle.gs_verilog.specs.declared.build.Builder.{Builder}
+use Rattle.gs_verilog.specs.declared.nets.Nets.{Nets}
+use Rattle.gs_verilog.specs.declared.error.StepErr.{StepErr}
+use Rattle.gs_verilog.specs.declared.error.VerilogErr.{VerilogErr}
+use Rattle.gs_text.specs.declared.kinds.TextErr.{TextErr}
+use Rattle.gs_verilog.specs.declared.error.StepErr.TheVariants as fails
+use Rattle.gs_verilog.specs.declared.reader.Reader.{Reader}
+use Rattle.gs_verilog.specs.declared.parts.Port.{Port}
+
+-- where the name is in the list
+abbrev pub place_of : List (List ℕ) → List ℕ → Option ℕ
+place_of names q = if list_any (bytes_eq q) names then Some (number names q) else None
+
+-- each net is found at its number
+abbrev pub FindsNets : Nets → Type 0
+FindsNets n = (q : List ℕ) → get_by (λ k. slice_cmp nat_cmp q k.now) n.places ≡ place_of n.names.items q
+
+-- the nets after a name was put, and the number that it has
+pub record Puts (old new : Nets) (name : List ℕ) (n : ℕ) : Type 0 where
+  pub finds : FindsNets new
+  pub names : new.names.items ≡ with_net old.names.items name
+  pub number : n ≡ number old.names.items name
+
+-- a pin of the last of so many instances is found at their number, any other pin below it
+abbrev pub PinAt : ℕ → Option ℕ → Bool → Type 0
+PinAt count None has = has ≡ false
+PinAt count (Some n) has = (n ≤ count) × ((n == count) ≡ has)
+
+-- the circuit so far
+abbrev pub built : Builder → Circuit
+built b = record { name = b.name.now; ports = b.ports.items; nets = b.nets.names.items; insts = b.insts.items }
+
+pub record IsIndexed (b : Builder) : Type 0 where
+  pub nets : FindsNets b.nets
+  pub directed : (n : ℕ) → contains nat_cmp b.directed n ≡ list_any (λ (p : Port). eqb n p.net) b.ports.items
+  pub named : (q : List ℕ) → is_some (get_by (λ k. slice_cmp nat_cmp q k.now) b.named) ≡ has_inst (built b) q
+  pub pins : (q : List ℕ) → PinAt (length b.insts.items) (get_by (λ k. slice_cmp nat_cmp q k.now) b.pins) (last_has b.insts.items q)
+
+-- the last instance has the pin at the net of this number
+abbrev pub linked : Circuit → (pin : List ℕ) → (net : ℕ) → Circuit
+linked c pin net = record c { insts = with_link c.insts (record { pin = pin; net = net }) }
+
+-- the machine's state that a reader stands for
+abbrev pub state_of : Reader → State
+state_of r = record { place = r.place; circuit = built r.built; cell = r.cell.now; pin = r.pin.now }
+
+-- a refusal where a rule refuses, or want of memory
+abbrev pub Refuses : Bool → StepErr → Type 0
+Refuses refused fails.Bad = ⊥
+Refuses refused fails.Twice = refused ≡ true
+Refuses refused fails.Mem = Unit {0}
+
+-- the error is the fault of the step, or memory ran out
+abbrev pub StepFails : StepErr → Result State Fault → Type 0
+StepFails fails.Bad r = r ≡ Err Bad
+StepFails fails.Twice r = r ≡ Err Twice
+StepFails fails.Mem r = Unit {0}
+
+-- the refusal of the text at a token
+abbrev pub refusal_of : ℕ → StepErr → VerilogErr
+refusal_of i fails.Bad = VerilogErr.BadPiece i
+refusal_of i fails.Twice = VerilogErr.TwoNames i
+refusal_of i fails.Mem = VerilogErr.Mem
+
+-- the refusal of a text without pieces
+abbrev pub unread : TextErr → VerilogErr
+unread (TextErr.NotBuilt at) = VerilogErr.NotBuilt at
+unread TextErr.Mem = VerilogErr.Mem

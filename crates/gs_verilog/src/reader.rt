@@ -1,0 +1,155 @@
+//! The reader: a place in the form, and the netlist so far.
+#![tactic(auto)]
+
+ghost use Rattle.std.specs.Prelude.{◌≡◌, ◌<◌, ◌≤◌, ◌+◌, ◌^◌, length, IfOk, IfErr, MatchResult, Ok, Some};
+ghost use Rattle.gs_text.specs.declared.kinds.Kind.{Kind};
+ghost use Rattle.gs_verilog.specs.Circuit.{IsNetlist};
+ghost use Rattle.gs_verilog.specs.Index.{IsIndexed, StepFails, built, state_of};
+ghost use Rattle.gs_verilog.specs.Machine.{Fails, arrived, at_end, named_before, start, step};
+
+use crate::build::Builder;
+use crate::error::{StepErr, VerilogErr};
+use crate::machine::{Place, Role, class_of, next};
+use crate::netlist::Netlist;
+use crate::parts::{Ports, RawInsts};
+use gs_text::{Kind, Name, Names};
+use std::alloc::Global;
+
+/// A reader of tokens.
+#[derive(Drop)]
+pub struct Reader<'a> {
+    pub place: Place,
+    pub built: Builder<'a>,
+    /// The cell that was read last.
+    pub cell: &'a [u8],
+    /// The pin that was read last.
+    pub pin: &'a [u8],
+}
+
+impl<'a> Reader<'a> {
+    /// A reader before the first token.
+    pub fn new(alloc: Global) -> Reader<'a>
+        ensures indexed { IsIndexed result.built }
+        ensures value { state_of result ≡ start }
+    {
+        Reader {
+            place: Place::Start,
+            built: Builder::new(alloc),
+            cell: &[],
+            pin: &[],
+        }
+    }
+
+    /// Takes a token that the form allows, and goes on to the next place.
+    fn enter(&mut self, alloc: Global, to: Place, text: &'a [u8]) -> Result<(), StepErr>
+        requires indexed { IsIndexed self.old.built }
+        requires room { length self.old.built.nets.names.items < 2 ^ 32 }
+        requires few { length self.old.built.insts.items < 2 ^ 32 }
+        ensures indexed { IfOk result (λ _. IsIndexed self.new.built) }
+        ensures ok { IfOk result (λ _. arrived named_before (Some to) (state_of self.old) text.now ≡ Ok (state_of self.new)) }
+        ensures err { IfErr result (λ e. StepFails e (arrived named_before (Some to) (state_of self.old) text.now)) }
+    {
+        match self.place {
+            Place::Title => {
+                self.built.name = text;
+                self.place = to;
+                Ok(())
+            }
+            Place::Items => {
+                self.cell = text;
+                self.place = to;
+                Ok(())
+            }
+            Place::Names(Role::Input) => {
+                self.built.direct(alloc, true, text)?;
+                self.place = to;
+                Ok(())
+            }
+            Place::Names(Role::Output) => {
+                self.built.direct(alloc, false, text)?;
+                self.place = to;
+                Ok(())
+            }
+            Place::Names(Role::Wire) => {
+                self.built.wire(alloc, text)?;
+                self.place = to;
+                Ok(())
+            }
+            Place::Instance => {
+                self.built.begin(alloc, self.cell, text)?;
+                self.place = to;
+                Ok(())
+            }
+            Place::Pin => {
+                if self.built.has_pin(text) {
+                    return Err(StepErr::Twice);
+                }
+                self.pin = text;
+                self.place = to;
+                Ok(())
+            }
+            Place::Net => {
+                self.built.connect(alloc, self.pin, text)?;
+                self.place = to;
+                Ok(())
+            }
+            Place::Start
+            | Place::Titled
+            | Place::Header
+            | Place::Headed
+            | Place::HeaderNext
+            | Place::HeaderDone
+            | Place::Named(_)
+            | Place::InstanceNamed
+            | Place::Pins
+            | Place::PinNamed
+            | Place::NetNamed
+            | Place::Linked
+            | Place::NextPin
+            | Place::Closed
+            | Place::End => {
+                self.place = to;
+                Ok(())
+            }
+        }
+    }
+
+    /// Takes a token.
+    pub fn take(&mut self, alloc: Global, kind: Kind, text: &'a [u8]) -> Result<(), StepErr>
+        requires indexed { IsIndexed self.old.built }
+        requires room { length self.old.built.nets.names.items < 2 ^ 32 }
+        requires few { length self.old.built.insts.items < 2 ^ 32 }
+        ensures indexed { IfOk result (λ _. IsIndexed self.new.built) }
+        ensures ok { IfOk result (λ _. step named_before (state_of self.old) (record { kind = kind; text = text.now }) ≡ Ok (state_of self.new)) }
+        ensures err { IfErr result (λ e. StepFails e (step named_before (state_of self.old) (record { kind = kind; text = text.now }))) }
+    {
+        match next(self.place, class_of(kind, text)) {
+            Some(to) => self.enter(alloc, to, text),
+            None => Err(StepErr::Bad),
+        }
+    }
+
+    /// The netlist, where the tokens ended with it; `count` is their number.
+    pub fn finish(self, alloc: Global, count: u32) -> Result<Netlist, VerilogErr>
+        requires { IsNetlist (built self.built) }
+        ensures { MatchResult result (λ n. at_end self.entry.place (built self.entry.built) count ≡ Ok n) (λ e. Fails e (at_end self.entry.place (built self.entry.built) count)) }
+    {
+        let Reader { place, built, .. } = self;
+        if place != Place::End {
+            return Err(VerilogErr::NoEnd { i: count });
+        }
+        let Builder {
+            name,
+            nets,
+            ports,
+            insts,
+            ..
+        } = built;
+        Ok(Netlist {
+            name: Name::copy_of(alloc, name)?,
+            ports: Ports::from_vec(ports),
+            nets: Names::from_vec(nets.names),
+            insts: RawInsts::from_vec(insts),
+        })
+    }
+}
