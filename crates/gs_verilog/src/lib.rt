@@ -24,6 +24,8 @@ mod nets;
 mod parts;
 mod read;
 mod reader;
+#[cfg(test)]
+mod tests;
 
 pub use error::VerilogErr;
 pub use netlist::Netlist;
