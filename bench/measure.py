@@ -1,0 +1,56 @@
+"""What the benchmarks share: building the proved program, running it, and reading its time and peak memory."""
+
+import os
+import subprocess
+import sys
+import time
+from pathlib import Path
+
+REPOSITORY = Path(__file__).resolve().parent.parent
+PROGRAM_CRATE = REPOSITORY / "crates" / "gs_prog"
+
+
+def program():
+    """The proved program, built if need be. `GATE_SIZER` names another one."""
+    named = os.environ.get("GATE_SIZER")
+    if named:
+        return Path(named).resolve()
+    # A run with no words proves, builds and ends with the exit code of bad usage.
+    subprocess.run(["rt", "run"], cwd=PROGRAM_CRATE, stdout=subprocess.DEVNULL, stderr=subprocess.DEVNULL)
+    built = PROGRAM_CRATE / "out" / "gs_prog"
+    if not built.exists():
+        sys.exit(f"the program was not built: run 'rt run' in {PROGRAM_CRATE} to see why")
+    return built
+
+
+class Run:
+    """One run: its exit code, what it printed, its seconds by the clock, and its peak resident memory in bytes."""
+
+    def __init__(self, words):
+        began = time.monotonic()
+        child = subprocess.Popen(words, stdout=subprocess.PIPE)
+        self.said = child.stdout.read().decode(errors="replace").strip()
+        _, status, usage = os.wait4(child.pid, 0)
+        self.seconds = time.monotonic() - began
+        self.exit = os.waitstatus_to_exitcode(status)
+        self.peak = usage.ru_maxrss * 1024
+
+
+def best_of(times, words):
+    """The quickest of several runs."""
+    return min((Run(words) for _ in range(times)), key=lambda run: run.seconds)
+
+
+def line(label, text_bytes, run):
+    """A line of the table that a benchmark prints."""
+    megabytes = text_bytes / 1e6
+    return (
+        f"{label:>24} {megabytes:8.1f} MB {run.seconds:8.3f} s {megabytes / run.seconds:7.1f} MB/s"
+        f" {run.peak / 1e6:8.1f} MB peak {run.peak / text_bytes:5.1f} bytes a byte   {run.said}"
+    )
+
+
+def bound(text, is_held):
+    """Prints whether a bound is held, and answers it."""
+    print(f"{'held' if is_held else 'PASSED OVER'}: {text}")
+    return is_held

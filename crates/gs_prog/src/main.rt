@@ -1,0 +1,34 @@
+//! The program `gate-sizer`: it gives the words after its name to `run`, over real files and standard output, and ends
+//! with the exit code of the status.
+//!
+//! Nothing is decided here. Where the system does not give the words it ends with exit code 2, and where there is no
+//! memory for them with exit code 6; it prints nothing in either case.
+#![tactic(auto)]
+
+use gs_shelf::HostShelf;
+use gs_top::{Mem, Status, Words, exit_of, run};
+use std::alloc::Global;
+use std::env;
+use std::process::ExitCode;
+
+/// The words after the program's name.
+fn words_after_name(alloc: Global, args: env::Args) -> Result<Words, Mem> {
+    let mut words = Words::new(alloc);
+    for word in args.skip(1) {
+        words.add(word.as_str())?;
+    }
+    Ok(words)
+}
+
+fn main(rt: HostRuntime) -> ExitCode {
+    let alloc = rt.alloc();
+    let Ok(args) = env::args(&rt) else {
+        return ExitCode::from(exit_of(&Status::Usage));
+    };
+    let Ok(words) = words_after_name(alloc, args) else {
+        return ExitCode::from(exit_of(&Status::OutOfMemory));
+    };
+    let mut shelf = HostShelf::new(&rt);
+    let status = run(alloc, &words, &mut shelf);
+    ExitCode::from(exit_of(&status))
+}

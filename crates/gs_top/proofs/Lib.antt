@@ -1,0 +1,5 @@
+pub mod Accepted
+pub mod Bytes
+pub mod Refused
+pub mod Said
+pub mod Stored

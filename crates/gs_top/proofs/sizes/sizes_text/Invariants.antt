@@ -1,0 +1,6 @@
+use Rattle.std.proofs.Common.{◌≡◌, take}
+use Rattle.gs_top.specs.Sizes.{sizes_text}
+use Rattle.gs_top.proofs.sizes.sizes_text.Given as goal
+
+abbrev pub invariant-loop-inst : goal.invariant-loop-inst
+invariant-loop-inst l = l.text.items ≡ sizes_text (take l.inst-index l.insts)
