@@ -1,0 +1,5 @@
+mod CycleLaws
+mod IncomingLaws
+mod LevelLaws
+mod OrderLaws
+mod SearchLaws
