@@ -11,6 +11,7 @@
 //!   fault stands, and the three steps of a reader's loop.
 //! - `proofs/Refusals.antt`: from a machine that takes exactly the whole texts, and whose every state can be finished,
 //!   to the exact place of each refusal.
+//! - `proofs/Exclusive.antt`: a front of a front is a front; the places of refusals exclude each other, and whole texts.
 //!
 //! A new reader declares its trees with a spelling, a machine with a rule, and proves three things of it: what it takes is
 //! a spelling, each spelling is taken, and each state can be finished. The places of its refusals follow from

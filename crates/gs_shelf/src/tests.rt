@@ -7,8 +7,8 @@ use crate::lists::{Bytes, Failures, FileList, Numbers};
 use crate::memory::MemShelf;
 use crate::whole::{FetchErr, read_whole};
 use std::alloc::{AllocError, Global};
-use std::fs;
 use std::test::Fail;
+use std::{fs, process};
 
 /// A shelf with the file `a` of five bytes.
 fn one_file(alloc: Global, fails: &[u64], most: u64) -> Result<MemShelf, AllocError>
@@ -124,7 +124,8 @@ fn a_real_file_is_written_and_read(rt: HostRuntime) -> Result<(), Fail> {
     let alloc = rt.alloc();
     let mut shelf = HostShelf::new(&rt);
     let text = filled(alloc, 3_000_000)?;
-    let name = "/tmp/gs_shelf_host_test";
+    let name = format!(in alloc; "/tmp/gs_shelf_host_test_{}", process::id(rt.process()))?;
+    let name = name.as_str();
     shelf.store(alloc, name, text.as_slice())?;
     let read = read_whole(alloc, &mut shelf, name)?;
     fs::remove_file(&rt, name)?;

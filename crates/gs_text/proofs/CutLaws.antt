@@ -9,8 +9,8 @@ use Rattle.gs_text.specs.declared.kinds.Kind.{Kind}
 use Rattle.gs_text.specs.declared.kinds.Piece.{Piece}
 use Rattle.gs_text.specs.declared.kinds.Style.{Style}
 use Rattle.gs_text.specs.declared.kinds.TextErr.{TextErr}
-use Rattle.gs_text.specs.declared.lexer.Front.{Front}
-use Rattle.gs_text.specs.declared.lexer.Front.TheVariants.{Gap, Found, NotBuilt}
+use Rattle.gs_text.specs.declared.scan.Front.{Front}
+use Rattle.gs_text.specs.declared.scan.Front.TheVariants.{Gap, Found, Passed}
 
 -- how many newlines there are
 abbrev pub breaks : List ℕ → ℕ
@@ -55,6 +55,13 @@ cut_found style line at c cs kind zero e pos fits = absurd (omega arith)
 cut_found style line at c cs kind (suc n) e pos fits =
     cut_front style line at c cs (Found kind (suc n)) e ∙ ap (onto (piece_at kind at (suc n) line ∷ [])) (skipped style line at (suc n) (c ∷ cs) fits)
 
+-- the same of a comment, which is no piece
+pub cut_passed : (style : Style) (line at c : ℕ) (cs : List ℕ) (len : ℕ) → Passed len ≡ front style c cs → 0 < len → len ≤ length (c ∷ cs)
+    → cut style line at 0 (c ∷ cs) ≡ cut style (line + breaks (take len (c ∷ cs))) (at + len) 0 (drop len (c ∷ cs))
+unfolding cut
+cut_passed style line at c cs zero e pos fits = absurd (omega arith)
+cut_passed style line at c cs (suc n) e pos fits = cut_front style line at c cs (Passed (suc n)) e ∙ skipped style line at (suc n) (c ∷ cs) fits
+
 module _ (style : Style) (bs : List ℕ) (at line : ℕ) (found : List Piece) (lt : at < length bs) (so_far : onto found (cut style line at 0 (drop at bs)) ≡ pieces style bs) where
   abbrev byte : ℕ
   byte = get_or bs at 0
@@ -84,9 +91,22 @@ module _ (style : Style) (bs : List ℕ) (at line : ℕ) (found : List Piece) (l
       ap (λ r. cut style (line + breaks (take len (drop at bs))) (at + len) 0 r) (drop-drop len at bs) in
       onto-append found (p ∷ []) (cut style (line + breaks (take len (drop at bs))) (at + len) 0 (drop (at + len) bs)) ∙ cc (so_far, step', later)
 
-  pub not_built : NotBuilt ≡ front style byte rest → pieces style bs ≡ Err (TextErr.NotBuilt at)
-  not_built e =
-      let step : cut style line at 0 (byte ∷ rest) ≡ Err (TextErr.NotBuilt at) = cut_front style line at byte rest NotBuilt e in
+  pub goes_past : (len : ℕ) → Passed len ≡ front style byte rest → 0 < len → at + len ≤ length bs
+      → onto found (cut style (line + breaks (take len (drop at bs))) (at + len) 0 (drop (at + len) bs)) ≡ pieces style bs
+  goes_past len e pos fits =
+      let size : length (byte ∷ rest) ≡ length bs - at = sym (ap length split) ∙ length-drop at bs in
+      let step : cut style line at 0 (byte ∷ rest) ≡ cut style (line + breaks (take len (byte ∷ rest))) (at + len) 0 (drop len (byte ∷ rest)) =
+      cut_passed style line at byte rest len e pos (omega arith) in
+      let step' : cut style line at 0 (drop at bs) ≡ cut style (line + breaks (take len (drop at bs))) (at + len) 0 (drop len (drop at bs)) =
+      rw split step in
+      let later : cut style (line + breaks (take len (drop at bs))) (at + len) 0 (drop len (drop at bs)) ≡ cut style (line + breaks (take len (drop at bs))) (at + len) 0 (drop (at + len) bs) =
+      ap (λ r. cut style (line + breaks (take len (drop at bs))) (at + len) 0 r) (drop-drop len at bs) in
+      cc (so_far, step', later)
+
+  -- where what begins is a fault, it is the text's
+  pub stops : (f : Front) (e : TextErr) → f ≡ front style byte rest → ((go : ℕ → Result (List Piece) TextErr) → put f line at go ≡ Err e) → pieces style bs ≡ Err e
+  stops f e is fault =
+      let step : cut style line at 0 (byte ∷ rest) ≡ Err e = cut_front style line at byte rest f is ∙ fault _ in
       sym so_far ∙ ap (λ r. onto found (cut style line at 0 r)) split ∙ ap (onto found) step
 
 pub ends : (style : Style) (bs : List ℕ) (at line : ℕ) (found : List Piece) → length bs ≤ at → onto found (cut style line at 0 (drop at bs)) ≡ pieces style bs → pieces style bs ≡ Ok found

@@ -13,8 +13,8 @@ use Rattle.gs_text.specs.declared.kinds.Kind.TheVariants.{Word, Escaped, Text, M
 use Rattle.gs_text.specs.declared.kinds.Piece.{Piece}
 use Rattle.gs_text.specs.declared.kinds.Style.{Style}
 use Rattle.gs_text.specs.declared.kinds.TextErr.{TextErr}
-use Rattle.gs_text.specs.declared.lexer.Front.{Front}
-use Rattle.gs_text.specs.declared.lexer.Front.TheVariants.{Gap, Found, NotBuilt}
+use Rattle.gs_text.specs.declared.scan.Front.{Front}
+use Rattle.gs_text.specs.declared.scan.Front.TheVariants.{Gap, Found, Passed, NotBuilt, OpenString, OpenComment}
 
 -- the piece is what begins at its place
 pub record Begins (style : Style) (bs : List ℕ) (p : Piece) : Type 0 where
@@ -60,7 +60,11 @@ module _ (style : Style) (bs : List ℕ) where
       let begins : Begins style bs p = record { first = c; rest = cs; len = suc n; here = here; front_is = e; some = omega arith; end_is = refl } in
       let P : List Piece → Type 0 = Follow style bs at in
       subst P (sym q.1.1) (omega arith, begins, sooner style bs (at + suc n) (at + 1 + n) q.0 (omega arith) (later n q.0 q.1.0))
+  put_follows (Passed zero) c cs line at go ps e here later cutting = sooner style bs at (at + 1 + 0) ps (omega arith) (later 0 ps cutting)
+  put_follows (Passed (suc n)) c cs line at go ps e here later cutting = sooner style bs at (at + 1 + n) ps (omega arith) (later n ps cutting)
   put_follows NotBuilt c cs line at go ps e here later cutting = cc
+  put_follows OpenString c cs line at go ps e here later cutting = cc
+  put_follows OpenComment c cs line at go ps e here later cutting = cc
 
   one_on : (at c : ℕ) (cs : List ℕ) → drop at bs ≡ c ∷ cs → drop (at + 1) bs ≡ cs
   one_on at c cs here = sym (drop-drop 1 at bs) ∙ ap (drop 1) here

@@ -13,3 +13,7 @@ is_digit c = nat_le 48 c && nat_le c 57
 abbrev pub is_word_byte : ℕ → Bool
 is_word_byte c =
     nat_le 97 c && nat_le c 122 || nat_le 65 c && nat_le c 90 || is_digit c || c == 95 || c == 36
+
+-- parentheses, braces, comma, semicolon and colon
+abbrev pub is_liberty_mark : ℕ → Bool
+is_liberty_mark c = c == 40 || c == 41 || c == 123 || c == 125 || c == 44 || c == 59 || c == 58

@@ -1,4 +1,5 @@
 pub mod Bytes
 pub mod Cut
+pub mod Faults
 pub mod Front
 pub mod Pieces

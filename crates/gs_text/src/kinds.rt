@@ -8,6 +8,8 @@ use std::alloc::AllocFailed;
 pub enum Style {
     /// Structural Verilog, after IEEE 1364-2005.
     Verilog,
+    /// Liberty, after the Liberty reference manual.
+    Lib,
 }
 
 /// What a piece is.
@@ -38,6 +40,10 @@ pub struct Piece {
 pub enum TextErr {
     /// Byte `at` begins a comment or an escaped name, which aren't built yet.
     NotBuilt { at: u32 },
+    /// The string that begins with the quote at byte `at` has no end.
+    OpenString { at: u32 },
+    /// The comment that begins at byte `at` has no end.
+    OpenComment { at: u32 },
     /// Memory ran out.
     Mem,
 }

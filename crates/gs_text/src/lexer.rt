@@ -1,133 +1,18 @@
 //! Cutting a text into pieces.
 #![tactic(auto)]
 
-ghost use Rattle.std.specs.Prelude.{◌≡◌, ℕ, ◌+◌, ◌*◌, ◌^◌, ◌<◌, ◌≤◌, ◌==◌, length, slice_index, IfOk, MatchResult, Ok};
-ghost use Rattle.std.specs.List.{All, count_by, prefix_len};
-ghost use Rattle.gs_text.specs.Bytes.{is_digit, is_white, is_word_byte};
-ghost use Rattle.gs_text.specs.Cut.{Fails, line_after, pieces};
-ghost use Rattle.gs_text.specs.Front.{FitsIn, begins_unbuilt, closed_len, front, index_len, word_len};
+ghost use Rattle.std.specs.Prelude.{◌≡◌, ℕ, ◌+◌, ◌*◌, ◌^◌, ◌<◌, ◌≤◌, ◌==◌, length, IfErr, IfOk, MatchResult, Ok};
+ghost use Rattle.std.specs.List.{All, count_by};
+ghost use Rattle.gs_text.specs.Cut.{ComesIn, Fails, line_after, pieces};
+ghost use Rattle.gs_text.specs.Faults.{HasCause, IsBuilt};
+ghost use Rattle.gs_text.specs.Front.{FitsIn, front};
 ghost use Rattle.gs_text.specs.Pieces.{HasGoodText, InOrder, LiesIn, closing_len, opening_len, text_of};
 
 use crate::kinds::{Kind, Piece, Style, TextErr};
+use crate::liberty::begins_liberty;
+use crate::scan::Front;
+use crate::verilog::begins_verilog;
 use std::alloc::Global;
-
-/// What begins at a byte that no piece has taken yet.
-enum Front {
-    /// White, which belongs to no piece.
-    Gap,
-    /// A piece of so many bytes.
-    Found(Kind, usize),
-    /// A comment or an escaped name.
-    NotBuilt,
-}
-
-fn is_white(byte: u8) -> bool
-    ensures { result ≡ is_white byte }
-{
-    byte == b' ' || byte == b'\t' || byte == b'\r' || byte == 12 || byte == b'\n'
-}
-
-fn is_digit(byte: u8) -> bool
-    ensures { result ≡ is_digit byte }
-{
-    byte >= b'0' && byte <= b'9'
-}
-
-fn is_word_byte(byte: u8) -> bool
-    ensures { result ≡ is_word_byte byte }
-{
-    byte >= b'a' && byte <= b'z'
-        || byte >= b'A' && byte <= b'Z'
-        || is_digit(byte)
-        || byte == b'_'
-        || byte == b'$'
-}
-
-/// The byte at place `i`, 0 past the end.
-fn byte_at(bytes: &[u8], i: usize) -> u8
-    ensures { result ≡ slice_index bytes.now i }
-{
-    if i < bytes.len() { bytes[i] } else { 0 }
-}
-
-/// How many digits stand at the front.
-fn digit_run(bytes: &[u8]) -> usize
-    ensures value { result ≡ prefix_len is_digit bytes.now }
-    ensures within { result ≤ length bytes.now }
-{
-    bytes.iter().take_while(|b| is_digit(**b)).count()
-}
-
-/// How many bytes of words stand at the front.
-fn word_run(bytes: &[u8]) -> usize
-    ensures value { result ≡ prefix_len is_word_byte bytes.now }
-    ensures within { result ≤ length bytes.now }
-{
-    bytes.iter().take_while(|b| is_word_byte(**b)).count()
-}
-
-/// How many bytes digits and a closing bracket take at the front, 0 where they don't stand there.
-fn closed_len(bytes: &[u8]) -> usize
-    ensures value { result ≡ closed_len bytes.now }
-    ensures within { result ≤ length bytes.now }
-{
-    let digits = digit_run(bytes);
-    if digits > 0 && byte_at(bytes, digits) == b']' {
-        digits + 1
-    } else {
-        0
-    }
-}
-
-/// How many bytes an index in brackets takes at the front, 0 where there is none.
-fn index_len(bytes: &[u8]) -> usize
-    ensures value { result ≡ index_len bytes.now }
-    ensures within { result ≤ length bytes.now }
-{
-    match bytes {
-        [first, after @ ..] => {
-            let len = closed_len(after);
-            if *first == b'[' && len > 0 {
-                len + 1
-            } else {
-                0
-            }
-        }
-        [] => 0,
-    }
-}
-
-/// How many bytes of `rest` belong to a word of Verilog whose first byte stands before it.
-fn word_len(rest: &[u8]) -> usize
-    ensures value { result ≡ word_len rest.now }
-    ensures within { result ≤ length rest.now }
-{
-    let run = word_run(rest);
-    run + index_len(&rest[run..])
-}
-
-/// Whether a comment or an escaped name begins with `byte` before `rest`.
-fn begins_unbuilt(byte: u8, rest: &[u8]) -> bool
-    ensures { result ≡ begins_unbuilt byte rest.now }
-{
-    byte == b'\\' || byte == b'/' && (byte_at(rest, 0) == b'/' || byte_at(rest, 0) == b'*')
-}
-
-/// What begins with `byte` before `rest` in a Verilog text.
-fn begins_verilog(byte: u8, rest: &[u8]) -> Front
-    ensures value { result ≡ front Style.Verilog byte rest.now }
-    ensures fits { FitsIn (length rest.now + 1) result }
-{
-    if is_white(byte) {
-        Front::Gap
-    } else if is_word_byte(byte) {
-        Front::Found(Kind::Word, word_len(rest) + 1)
-    } else if begins_unbuilt(byte, rest) {
-        Front::NotBuilt
-    } else {
-        Front::Found(Kind::Mark, 1)
-    }
-}
 
 /// What begins with `byte` before `rest` in a text of the style.
 fn begins(style: Style, byte: u8, rest: &[u8]) -> Front
@@ -136,6 +21,7 @@ fn begins(style: Style, byte: u8, rest: &[u8]) -> Front
 {
     match style {
         Style::Verilog => begins_verilog(byte, rest),
+        Style::Lib => begins_liberty(byte, rest),
     }
 }
 
@@ -160,12 +46,17 @@ fn line_breaks(bytes: &[u8]) -> usize
 ///
 /// # Errors
 ///
-/// `NotBuilt { at }` where a comment or an escaped name begins at byte `at`, the first such place; `Mem` where memory
-/// ran out.
+/// In style Verilog, `NotBuilt { at }` where a comment or an escaped name begins at byte `at`, the first such place. In
+/// style Lib, `OpenString { at }` or `OpenComment { at }` where a string or a comment that begins at byte `at` has no
+/// end. `Mem` where memory ran out.
 pub fn pieces(alloc: Global, style: Style, bytes: &[u8]) -> Result<Vec<Piece>, TextErr>
     requires { length bytes.now ≤ 2 ^ 28 }
     // The pieces are exactly those of the text, and an error is the text's own, or memory ran out.
     ensures exact { MatchResult result (λ v. pieces style bytes.now ≡ Ok v.items) (λ e. Fails e (pieces style bytes.now)) }
+    // Each error comes by its cause, and nothing in a text that is cut is still to be built.
+    ensures cause { MatchResult result (λ _. IsBuilt style bytes.now) (λ e. HasCause style bytes.now e) }
+    // Each style has its own errors.
+    ensures own { IfErr result (λ e. ComesIn style e) }
     // Each piece lies in the text.
     ensures inside { IfOk result (λ v. All (LiesIn (length bytes.now)) v.items) }
     // The pieces stand in the text's order, and none overlaps the next.
@@ -195,7 +86,14 @@ pub fn pieces(alloc: Global, style: Style, bytes: &[u8]) -> Result<Vec<Piece>, T
                 line += line_breaks(&bytes[at..to]) as u32;
                 at = to;
             }
+            Front::Passed(len) => {
+                let to = at + len;
+                line += line_breaks(&bytes[at..to]) as u32;
+                at = to;
+            }
             Front::NotBuilt => return Err(TextErr::NotBuilt { at: at as u32 }),
+            Front::OpenString => return Err(TextErr::OpenString { at: at as u32 }),
+            Front::OpenComment => return Err(TextErr::OpenComment { at: at as u32 }),
         }
     }
     Ok(found)
@@ -281,6 +179,46 @@ mod tests {
             assert!(rt; refused, "at {at}");
         }
         assert!(rt; pieces(rt.alloc(), Style::Verilog, b"a/b / c*/").is_ok());
+    }
+
+    #[test]
+    fn liberty_strings_comments_and_continued_lines(rt: HostRuntime) -> Result<(), Fail> {
+        let text = b"a /*/ x\n*/(\"p\\\nq\",b/c/*d*/e\\\nf:;".as_slice();
+        let found = pieces(rt.alloc(), Style::Lib, text)?;
+        let wanted = [
+            piece(Kind::Word, 0, 1, 1),
+            piece(Kind::Mark, 10, 11, 2),
+            piece(Kind::Text, 11, 17, 2),
+            piece(Kind::Mark, 17, 18, 3),
+            piece(Kind::Word, 18, 21, 3),
+            piece(Kind::Word, 26, 27, 3),
+            piece(Kind::Word, 29, 30, 4),
+            piece(Kind::Mark, 30, 31, 4),
+            piece(Kind::Mark, 31, 32, 4),
+        ];
+        assert_eq!(rt; found.as_slice(), wanted.as_slice());
+        Ok(())
+    }
+
+    #[test]
+    fn liberty_strings_without_an_end(rt: HostRuntime) {
+        let strings = [(b"a \"b\\\n".as_slice(), 2), (b"\"a\"b\"".as_slice(), 4)];
+        for (text, at) in strings {
+            let refused =
+                matches!(pieces(rt.alloc(), Style::Lib, text), Err(TextErr::OpenString { at: a }) if a == at);
+            assert!(rt; refused, "at {at}");
+        }
+    }
+
+    #[test]
+    fn liberty_comments_without_an_end(rt: HostRuntime) {
+        let comments = [(b"x/*/".as_slice(), 1), (b"\"/*\" /**".as_slice(), 5)];
+        for (text, at) in comments {
+            let refused =
+                matches!(pieces(rt.alloc(), Style::Lib, text), Err(TextErr::OpenComment { at: a }) if a == at);
+            assert!(rt; refused, "at {at}");
+        }
+        assert!(rt; pieces(rt.alloc(), Style::Lib, b"/* \" */ a").is_ok());
     }
 
     #[test]

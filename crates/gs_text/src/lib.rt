@@ -11,13 +11,16 @@
 //!
 //! Cutting is one pass over the bytes and takes memory for the pieces alone, 16 bytes each.
 //!
-//! To add a style or a kind of piece, change what begins at a byte: `front` in `specs/Front.antt` and `begins` in
-//! `src/lexer.rt`. The loop and its proof speak of no style.
+//! To add a style or a kind of piece, change what begins at a byte: `front` in `specs/Front.antt`, and a file
+//! of the style beside `src/verilog.rt`. The loop and its proof speak of no style.
 #![tactic(auto)]
 
 mod identifier;
 mod kinds;
 mod lexer;
+mod liberty;
+mod scan;
+mod verilog;
 
 pub use identifier::{Name, Names};
 pub use kinds::{Kind, Piece, Style, TextErr};

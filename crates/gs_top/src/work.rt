@@ -81,9 +81,7 @@ fn make_sizes(alloc: Global, bytes: &[u8]) -> Result<Sizes, Status>
     let Ok(text) = sizes_text(alloc, insts) else {
         return Err(Status::OutOfMemory);
     };
-    let Ok(instances) = u32::try_from(insts.len()) else {
-        return Err(Status::OutOfMemory);
-    };
+    let instances = insts.len() as u32;
     Ok(Sizes { text, instances })
 }
 

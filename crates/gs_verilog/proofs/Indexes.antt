@@ -109,26 +109,26 @@ directed_new f g ps p h after n =
 
 -- ---- instances
 
-named_by : (b : Bool) (x : List ℕ) (q : List ℕ) (r : Bool) (o : Option (Unit {0})) → bytes_eq x q ≡ r → bytes_eq q x ≡ r → is_some o ≡ b
-    → is_some (cond (bytes_eq x q) (Some tt) o) ≡ (b || (bytes_eq q x || false))
-named_by true x q true o e f h = rw e refl
-named_by false x q true o e f h = rw (e, f) refl
-named_by true x q false o e f h = rw e h
-named_by false x q false o e f h = rw (e, f) h
+named_by : (b : Bool) (x : List ℕ) (q : List ℕ) (n : ℕ) (r : Bool) (o : Option ℕ) → bytes_eq x q ≡ r → bytes_eq q x ≡ r → is_some o ≡ b
+    → is_some (cond (bytes_eq x q) (Some n) o) ≡ (b || (bytes_eq q x || false))
+named_by true x q n true o e f h = rw e refl
+named_by false x q n true o e f h = rw (e, f) refl
+named_by true x q n false o e f h = rw e h
+named_by false x q n false o e f h = rw (e, f) h
 
 bytes_flip : (x y : List ℕ) (b : Bool) → bytes_eq x y ≡ b → bytes_eq y x ≡ b
 bytes_flip x y true e = let same : x ≡ y = same_bytes x y e in let P : List ℕ → Type 0 = λ z. bytes_eq z x ≡ true in subst P same (itself x)
 bytes_flip x y false e = apart y x e
 
 -- the map after a new instance
-pub named_new : (f g : List ℕ → Option (Unit {0})) (is : List RawInst) (i : RawInst)
+pub named_new : (f g : List ℕ → Option ℕ) (is : List RawInst) (i : RawInst) (n : ℕ)
     → ((q : List ℕ) → is_some (f q) ≡ list_any (λ (j : RawInst). bytes_eq q j.name) is)
-    → ((q : List ℕ) → g q ≡ update bytes_eq f i.name (Some tt) q)
+    → ((q : List ℕ) → g q ≡ update bytes_eq f i.name (Some n) q)
     → (q : List ℕ) → is_some (g q) ≡ list_any (λ (j : RawInst). bytes_eq q j.name) (is ++ i ∷ [])
-named_new f g is i h after q =
+named_new f g is i n h after q =
     let r = bytes_eq i.name q in
-    ap (λ (o : Option (Unit {0})). is_some o) (after q)
-    ∙ named_by (list_any (λ (j : RawInst). bytes_eq q j.name) is) i.name q r (f q) refl (bytes_flip i.name q r refl) (h q)
+    ap (λ (o : Option ℕ). is_some o) (after q)
+    ∙ named_by (list_any (λ (j : RawInst). bytes_eq q j.name) is) i.name q n r (f q) refl (bytes_flip i.name q r refl) (h q)
     ∙ sym (list_any-append (λ (j : RawInst). bytes_eq q j.name) is (i ∷ []))
 
 -- ---- pins

@@ -176,7 +176,7 @@ err_cause ts e h = cause_by ts e (run strict start ts) refl h
 ok_bytes_by : (bytes : List ℕ) (c : Circuit) (found : Result (List Token) TextErr) → tokens bytes ≡ found → judged found ≡ Ok c → IsVerilog bytes c
 ok_bytes_by bytes c (Ok ts) e h = (ts, e, ok_text ts c h)
 ok_bytes_by bytes c (Err (TextErr.NotBuilt at)) e h = cc
-ok_bytes_by bytes c (Err TextErr.Mem) e h = cc
+ok_bytes_by bytes c (Err _) e h = cc
 
 -- the outcome is a circuit exactly where the bytes stand for it,
 pub ok_bytes : (bytes : List ℕ) (c : Circuit) → outcome bytes ≡ Ok c → IsVerilog bytes c
@@ -193,7 +193,7 @@ err_bytes_by bytes e (Ok ts) h k = lift_cause bytes ts e h (err_cause ts e k)
 err_bytes_by bytes e (Err (TextErr.NotBuilt at)) h k =
     let same : VerilogErr.NotBuilt at ≡ e = cc in
     subst (HasCause bytes) same h
-err_bytes_by bytes e (Err TextErr.Mem) h k =
+err_bytes_by bytes e (Err _) h k =
     let same : VerilogErr.Mem ≡ e = cc in
     subst (HasCause bytes) same tt
 

@@ -1,10 +1,12 @@
 pub mod Agree
 pub mod Classes
 pub mod Complete
+pub mod Exact
 pub mod Finish
 pub mod Fits
 pub mod Folds
 pub mod Indexes
+pub mod Keys
 pub mod Laws
 pub mod Left
 pub mod Numbers

@@ -132,7 +132,7 @@ whole_kept bytes ps s good r = kept (map (token_of bytes) ps) s r.run_is (good_t
 
 pub unread_fails : (bytes : List ℕ) (e : TextErr) → CutFails e (pieces Verilog bytes) → Fails (unread e) (outcome bytes)
 unread_fails bytes (TextErr.NotBuilt at) h = inr (ap (λ r. judged (tokens_from bytes r)) h)
-unread_fails bytes TextErr.Mem h = inl refl
+unread_fails bytes _ h = inl refl
 
 -- ---- the clauses, from the answer as a function of the bytes
 
@@ -203,3 +203,13 @@ finish_answers bytes ps s count r all n h =
 pub piece_few : (ps : List Piece) (i : ℕ) (d : Piece) (s m : State) (text : List ℕ)
     → step named_before s (record { kind = (get_or ps i d).kind; text = text }) ≡ Ok m → AddsFew s.circuit m.circuit
 piece_few ps i d s m text e = step_few s m (record { kind = (get_or ps i d).kind; text = text }) e
+
+-- ---- how many instances there are
+
+pub few_insts : (c : Circuit) (n : ℕ) (r : Result Circuit VerilogErr) → length c.insts ≤ n → IfOk r (λ d. d ≡ c) → IfOk r (λ d. length d.insts ≤ n)
+few_insts c n (Ok d) le e = let k = ap (λ (x : Circuit). length x.insts) e in omega arith
+few_insts c n (Err e) le h = tt
+
+pub fewer_insts : (m n : ℕ) (r : Result Circuit VerilogErr) → m ≤ n → IfOk r (λ d. length d.insts ≤ m) → IfOk r (λ d. length d.insts ≤ n)
+fewer_insts m n (Ok d) le h = omega arith
+fewer_insts m n (Err e) le h = tt

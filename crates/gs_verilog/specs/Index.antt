@@ -1,15 +1,14 @@
 -- The maps of the reader: where each name of the circuit so far is found.
 
 use Rattle.std.specs.Prelude.{◌≡◌, ℕ, ◌≤◌, ◌==◌, Bool, true, false, List, length, Option, None, Some, Result, Err, eqb, if◌then◌else◌}
-use Rattle.std.specs.BTreeMap.{get_by}
 use Rattle.std.specs.BTreeSet.{contains}
-use Rattle.std.specs.Cmp.Lexicographic.{slice_cmp}
 use Rattle.std.specs.List.{list_any}
 use Rattle.std.specs.Option.{is_some}
 use Rattle.std.specs.Ordering.{nat_cmp}
 use Rattle.std.specs.Str.{bytes_eq}
 use Rattle.gs_verilog.specs.Circuit.{Circuit}
 use Rattle.gs_verilog.specs.Machine.{State, Fault, Bad, Twice, with_net, with_link, has_inst, last_has}
+use Rattle.gs_verilog.specs.Names.{find}
 use Rattle.gs_verilog.specs.Text.{number}
 use Rattle.gs_verilog.specs.declared.build.Builder.{Builder}
 use Rattle.gs_verilog.specs.declared.nets.Nets.{Nets}
@@ -26,7 +25,7 @@ place_of names q = if list_any (bytes_eq q) names then Some (number names q) els
 
 -- each net is found at its number
 abbrev pub FindsNets : Nets → Type 0
-FindsNets n = (q : List ℕ) → get_by (λ k. slice_cmp nat_cmp q k.now) n.places ≡ place_of n.names.items q
+FindsNets n = (q : List ℕ) → find n.places q ≡ place_of n.names.items q
 
 -- the nets after a name was put, and the number that it has
 pub record Puts (old new : Nets) (name : List ℕ) (n : ℕ) : Type 0 where
@@ -46,8 +45,8 @@ built b = record { name = b.name.now; ports = b.ports.items; nets = b.nets.names
 pub record IsIndexed (b : Builder) : Type 0 where
   pub nets : FindsNets b.nets
   pub directed : (n : ℕ) → contains nat_cmp b.directed n ≡ list_any (λ (p : Port). eqb n p.net) b.ports.items
-  pub named : (q : List ℕ) → is_some (get_by (λ k. slice_cmp nat_cmp q k.now) b.named) ≡ has_inst (built b) q
-  pub pins : (q : List ℕ) → PinAt (length b.insts.items) (get_by (λ k. slice_cmp nat_cmp q k.now) b.pins) (last_has b.insts.items q)
+  pub named : (q : List ℕ) → is_some (find b.named q) ≡ has_inst (built b) q
+  pub pins : (q : List ℕ) → PinAt (length b.insts.items) (find b.pins q) (last_has b.insts.items q)
 
 -- the last instance has the pin at the net of this number
 abbrev pub linked : Circuit → (pin : List ℕ) → (net : ℕ) → Circuit
@@ -75,7 +74,7 @@ refusal_of i fails.Bad = VerilogErr.BadPiece i
 refusal_of i fails.Twice = VerilogErr.TwoNames i
 refusal_of i fails.Mem = VerilogErr.Mem
 
--- the refusal of a text without pieces
+-- the refusal of a text without pieces; other faults don't come in this style
 abbrev pub unread : TextErr → VerilogErr
 unread (TextErr.NotBuilt at) = VerilogErr.NotBuilt at
-unread TextErr.Mem = VerilogErr.Mem
+unread _ = VerilogErr.Mem

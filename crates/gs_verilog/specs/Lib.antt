@@ -1,6 +1,7 @@
 pub mod Circuit
 pub mod Index
 pub mod Machine
+pub mod Names
 pub mod Refusal
 pub mod Text
 pub mod Token

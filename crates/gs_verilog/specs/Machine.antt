@@ -187,7 +187,7 @@ reading ts = ended (length ts) (run (step named_before) start ts)
 abbrev pub judged : Result (List Token) TextErr → Result Circuit VerilogErr
 judged (Ok ts) = reading ts
 judged (Err (TextErr.NotBuilt at)) = Err (VerilogErr.NotBuilt at)
-judged (Err TextErr.Mem) = Err VerilogErr.Mem
+judged (Err _) = Err VerilogErr.Mem
 
 -- the circuit of a text, or its first refusal
 abbrev pub outcome : List ℕ → Result Circuit VerilogErr

@@ -7,11 +7,12 @@ ghost use Rattle.gs_verilog.specs.Machine.{connected, declared, empty, has_inst,
 ghost use Rattle.gs_verilog.specs.declared.machine.Role.{Role};
 
 use crate::error::StepErr;
+use crate::names::NameMap;
 use crate::nets::Nets;
 use crate::parts::{Link, Links, Port, RawInst};
 use gs_text::Name;
 use std::alloc::Global;
-use std::collections::{BTreeMap, BTreeSet};
+use std::collections::BTreeSet;
 
 /// The netlist so far. Names are found by ordered maps that borrow the text.
 #[derive(Drop)]
@@ -23,23 +24,21 @@ pub struct Builder<'a> {
     /// The numbers of the nets that have a direction.
     pub directed: BTreeSet<u32>,
     pub insts: Vec<RawInst>,
-    /// The names of the instances.
-    pub named: BTreeMap<&'a [u8], ()>,
+    /// The numbers of the instances, by name.
+    pub named: NameMap<'a>,
     /// For each pin's name, how many instances there were when it was connected last.
-    pub pins: BTreeMap<&'a [u8], u32>,
+    pub pins: NameMap<'a>,
 }
 
 /// Puts a connection to the last instance.
 fn add_link(insts: &mut Vec<RawInst>, link: Link) -> Result<(), StepErr>
+    requires { 0 < length insts.old.items }
     ensures ok { IfOk result (λ _. insts.new.items ≡ with_link insts.old.items link) }
     ensures err { IfErr result (λ e. e ≡ StepErr.Mem) }
 {
     let count = insts.len();
-    if count > 0 {
-        let last = &mut insts[count - 1];
-        last.links.push(link)?;
-        return Ok(());
-    }
+    let last = &mut insts[count - 1];
+    last.links.push(link)?;
     Ok(())
 }
 
@@ -55,8 +54,8 @@ impl<'a> Builder<'a> {
             ports: Vec::new(alloc),
             directed: BTreeSet::new(alloc),
             insts: Vec::new(alloc),
-            named: BTreeMap::new(alloc),
-            pins: BTreeMap::new(alloc),
+            named: NameMap::new(alloc),
+            pins: NameMap::new(alloc),
         }
     }
 
@@ -92,12 +91,14 @@ impl<'a> Builder<'a> {
     /// An instance begins, whose name no earlier instance may have.
     pub fn begin(&mut self, alloc: Global, cell: &[u8], name: &'a [u8]) -> Result<(), StepErr>
         requires indexed { IsIndexed self.old }
+        requires few { length self.old.insts.items < 2 ^ 32 }
         ensures indexed { IfOk result (λ _. IsIndexed self.new) }
         ensures ok { IfOk result (λ _. built self.new ≡ with_inst (built self.old) cell.now name.now) }
         ensures free { IfOk result (λ _. has_inst (built self.old) name.now ≡ false) }
         ensures err { IfErr result (λ e. Refuses (has_inst (built self.old) name.now) e) }
     {
-        if self.named.insert(name, ())?.is_some() {
+        let count = self.insts.len() as u32;
+        if self.named.insert(name, count)?.is_some() {
             return Err(StepErr::Twice);
         }
         let inst = RawInst {
@@ -114,8 +115,8 @@ impl<'a> Builder<'a> {
         requires indexed { IsIndexed self.now }
         ensures { result ≡ has_pin (built self.now) pin.now }
     {
-        match self.pins.get(&pin) {
-            Some(count) => *count as usize == self.insts.len(),
+        match self.pins.get(pin) {
+            Some(count) => count as usize == self.insts.len(),
             None => false,
         }
     }

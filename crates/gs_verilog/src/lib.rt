@@ -2,13 +2,14 @@
 //!
 //! [`read_netlist`] reads the bytes of one module and answers its [`Netlist`], or the one place at which they stop being a
 //! netlist. Its contract says both ways what is read: it answers `Ok` exactly on the texts of the form that keep the rules
-//! on names, with the one netlist that the text stands for, and each refusal comes by its exact cause. Want of memory is
-//! the one answer that may come at any point.
+//! on names, with the one netlist that the text stands for, and each refusal exactly where its cause stands. Want of memory
+//! is the one answer that may come at any point.
 //!
 //! - `specs/Tree.antt`: the form, as whole trees with their spelling.
 //! - `specs/Text.antt`: what a tree stands for; `specs/Circuit.antt`: what every netlist keeps.
 //! - `specs/Refusal.antt`: the cause of each refusal, as fronts of the form.
-//! - `specs/Machine.antt`: the same answer as a function of the bytes, token by token.
+//! - `specs/Machine.antt`: the same answer as a function of the bytes, token by token; `outcome` is that function.
+//! - `specs/Index.antt`, `specs/Names.antt`: the reader's own maps, of which the public contract says nothing.
 //!
 //! Reading takes one pass over the bytes and one over the pieces. Names are found by ordered maps that borrow the text, so
 //! the time is that of the text's length, times the logarithm of the number of names. Nothing recurses.
@@ -19,6 +20,7 @@
 mod build;
 mod error;
 mod machine;
+mod names;
 mod netlist;
 mod nets;
 mod parts;

@@ -5,15 +5,15 @@ ghost use Rattle.std.specs.Prelude.{◌≡◌, ◌<◌, ◌^◌, [], length, IfE
 ghost use Rattle.gs_verilog.specs.Index.{FindsNets, Puts};
 
 use crate::error::StepErr;
+use crate::names::NameMap;
 use gs_text::Name;
 use std::alloc::Global;
-use std::collections::BTreeMap;
 
 /// The names of the nets in the order of their first appearance, and the number of each.
 #[derive(Drop)]
 pub struct Nets<'a> {
     pub names: Vec<Name>,
-    pub places: BTreeMap<&'a [u8], u32>,
+    pub places: NameMap<'a>,
 }
 
 impl<'a> Nets<'a> {
@@ -24,7 +24,7 @@ impl<'a> Nets<'a> {
     {
         Nets {
             names: Vec::new(alloc),
-            places: BTreeMap::new(alloc),
+            places: NameMap::new(alloc),
         }
     }
 
@@ -35,8 +35,8 @@ impl<'a> Nets<'a> {
         ensures ok { IfOk result (λ n. Puts self.old self.new name.now n) }
         ensures err { IfErr result (λ e. e ≡ StepErr.Mem) }
     {
-        if let Some(place) = self.places.get(&name) {
-            return Ok(*place);
+        if let Some(place) = self.places.get(name) {
+            return Ok(place);
         }
         let place = self.names.len() as u32;
         let copy = Name::copy_of(alloc, name)?;

@@ -1,8 +1,9 @@
 //! Reading a netlist.
 #![tactic(auto)]
 
-ghost use Rattle.std.specs.Prelude.{◌≡◌, ◌≤◌, ◌^◌, length, map, IfOk, IfErr, MatchResult, Ok};
+ghost use Rattle.std.specs.Prelude.{◌≡◌, ◌≢◌, ◌⊎◌, ◌≤◌, ◌^◌, length, map, IfOk, IfErr, MatchResult, Ok};
 ghost use Rattle.std.specs.List.{All};
+ghost use Rattle.gs_text.specs.Cut.{ComesIn};
 ghost use Rattle.gs_text.specs.Pieces.{HasGoodText, LiesIn, text_of};
 ghost use Rattle.gs_verilog.specs.Circuit.{Circuit};
 ghost use Rattle.gs_verilog.specs.Index.{refusal_of, unread};
@@ -29,11 +30,13 @@ fn refusal(i: u32, error: StepErr) -> VerilogErr
 
 /// The refusal of a text that has no pieces.
 fn unread(error: TextErr) -> VerilogErr
+    requires { ComesIn Style.Verilog error }
     ensures { result ≡ unread error }
 {
     match error {
         TextErr::NotBuilt { at } => VerilogErr::NotBuilt { at },
         TextErr::Mem => VerilogErr::Mem,
+        TextErr::OpenString { .. } | TextErr::OpenComment { .. } => unreachable!(),
     }
 }
 
@@ -42,7 +45,8 @@ fn read_pieces(alloc: Global, bytes: &[u8], pieces: &[Piece]) -> Result<Netlist,
     requires few { length pieces.now ≤ 2 ^ 28 }
     requires inside { All (LiesIn (length bytes.now)) pieces.now }
     requires solid { All (λ p. HasGoodText p.kind (text_of bytes.now p)) pieces.now }
-    ensures { MatchResult result (λ n. reading (map (token_of bytes.now) pieces.now) ≡ Ok n) (λ e. Fails e (reading (map (token_of bytes.now) pieces.now))) }
+    ensures few { IfOk result (λ n. length n.insts ≤ length pieces.now) }
+    ensures answer { MatchResult result (λ n. reading (map (token_of bytes.now) pieces.now) ≡ Ok n) (λ e. Fails e (reading (map (token_of bytes.now) pieces.now))) }
 {
     let mut reader = Reader::new(alloc);
     for (i, piece) in pieces.iter().enumerate() {
@@ -58,7 +62,8 @@ fn read_pieces(alloc: Global, bytes: &[u8], pieces: &[Piece]) -> Result<Netlist,
 /// Reads a text by its pieces.
 fn read_text(alloc: Global, bytes: &[u8]) -> Result<Netlist, VerilogErr>
     requires { length bytes.now ≤ 2 ^ 28 }
-    ensures { MatchResult result (λ n. outcome bytes.now ≡ Ok n) (λ e. Fails e (outcome bytes.now)) }
+    ensures few { IfOk result (λ n. length n.insts ≤ length bytes.now) }
+    ensures answer { MatchResult result (λ n. outcome bytes.now ≡ Ok n) (λ e. Fails e (outcome bytes.now)) }
 {
     match pieces(alloc, Style::Verilog, bytes) {
         Ok(found) => read_pieces(alloc, bytes, found.as_slice()),
@@ -77,8 +82,12 @@ pub fn read_netlist(alloc: Global, bytes: &[u8]) -> Result<Netlist, VerilogErr>
     ensures ok { IfOk result (λ n. IsVerilog bytes.now n) }
     // A text is read as the one netlist that it stands for, unless memory runs out.
     ensures only { (c : Circuit) → IsVerilog bytes.now c → MatchResult result (λ n. n ≡ c) (λ e. e ≡ VerilogErr.Mem) }
-    // Each refusal comes exactly by its cause.
+    // Each refusal comes only by its cause,
     ensures err { IfErr result (λ e. HasCause bytes.now e) }
+    // and where a cause stands, its refusal comes, unless memory runs out.
+    ensures exact { (e : VerilogErr) → e ≢ VerilogErr.Mem → HasCause bytes.now e → MatchResult result (λ n. ⊥) (λ f. (f ≡ e) ⊎ (f ≡ VerilogErr.Mem)) }
+    // There are no more instances than bytes.
+    ensures few { IfOk result (λ n. length n.insts ≤ length bytes.now) }
     // The answer is a function of the bytes, unless memory runs out.
     ensures function { MatchResult result (λ n. outcome bytes.now ≡ Ok n) (λ e. Fails e (outcome bytes.now)) }
 {

@@ -132,7 +132,8 @@ impl<'a> Reader<'a> {
     /// The netlist, where the tokens ended with it; `count` is their number.
     pub fn finish(self, alloc: Global, count: u32) -> Result<Netlist, VerilogErr>
         requires { IsNetlist (built self.built) }
-        ensures { MatchResult result (λ n. at_end self.entry.place (built self.entry.built) count ≡ Ok n) (λ e. Fails e (at_end self.entry.place (built self.entry.built) count)) }
+        ensures value { IfOk result (λ n. n ≡ built self.entry.built) }
+        ensures answer { MatchResult result (λ n. at_end self.entry.place (built self.entry.built) count ≡ Ok n) (λ e. Fails e (at_end self.entry.place (built self.entry.built) count)) }
     {
         let Reader { place, built, .. } = self;
         if place != Place::End {

@@ -18,5 +18,5 @@ returns-clause-ok c =
         accepted = accepted _ _ c.requires c.in-Ok.ensures.function;
       };
       is = c.in-Ok-sizes_text.ensures ∙ ap sizes_text c.insts-insts.ensures.value;
-      count = c.in-Ok-try_from.ensures.1 ∙ ap length c.insts-insts.ensures.value;
+      count = ap length c.insts-insts.ensures.value;
     }
