@@ -2,3 +2,9 @@ pub mod Digits
 pub mod Rounding
 pub mod Scaling
 pub mod Printing
+pub mod Axis
+pub mod Places
+pub mod Quotient
+pub mod Tables
+pub mod Spots
+pub mod Causes

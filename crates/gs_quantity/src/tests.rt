@@ -1,5 +1,6 @@
 // Worked numbers, and each call once with ample memory.
 use super::*;
+use std::alloc::{AllocError, Global};
 use std::test::Fail;
 
 fn read(text: &str) -> Result<Micro, NumErr> {
@@ -68,6 +69,88 @@ fn printed(rt: HostRuntime) -> Result<(), Fail> {
     assert_eq!(rt;
         out.as_slice(),
         b"x0.000000 0.000001 -0.000001 1.000000 -9.000000 123.456789 -9223372036854.775808 ".as_slice()
+    );
+    Ok(())
+}
+
+fn list(alloc: Global, items: &[i64]) -> Result<Vec<Micro>, AllocError> {
+    let mut out = Vec::new(alloc);
+    for item in items {
+        out.push(Micro(*item))?;
+    }
+    Ok(out)
+}
+
+fn table(alloc: Global, xs: &[i64], ys: &[i64], zs: &[i64]) -> Result<Table, Fail> {
+    Ok(Table::new(list(alloc, xs)?, list(alloc, ys)?, list(alloc, zs)?)?)
+}
+
+fn refusal(alloc: Global, xs: &[i64], ys: &[i64], zs: &[i64]) -> Result<Option<TableErr>, Fail> {
+    Ok(Table::new(list(alloc, xs)?, list(alloc, ys)?, list(alloc, zs)?).err())
+}
+
+#[test]
+fn worked_lookups(rt: HostRuntime) -> Result<(), Fail> {
+    let square = table(rt.alloc(), &[0, 10], &[0, 20], &[1, 3, 5, 11])?;
+    assert_eq!(rt; square.look(Micro(5), Micro(5), true), Micro(4));
+    assert_eq!(rt; square.look(Micro(20), Micro(20), true), Micro(19));
+    assert_eq!(rt; square.look(Micro(20), Micro(30), true), Micro(24));
+    let rising = table(rt.alloc(), &[0, 2], &[0], &[0, 1])?;
+    assert_eq!(rt; rising.look(Micro(1), Micro(7), true), Micro(1));
+    let falling = table(rt.alloc(), &[0, 2], &[0], &[0, -1])?;
+    assert_eq!(rt; falling.look(Micro(1), Micro(7), true), Micro(0));
+    assert_eq!(rt; falling.look(Micro(20), Micro(7), true), Micro(-10));
+    assert_eq!(rt; falling.look(Micro(20), Micro(7), false), Micro(0));
+    let single = table(rt.alloc(), &[0], &[0], &[7])?;
+    for query in [i64::MIN, -1, 0, 1, 1 << 36, i64::MAX] {
+        assert_eq!(rt; single.look(Micro(query), Micro(query), true), Micro(7));
+    }
+    Ok(())
+}
+
+#[test]
+fn wide_lookups(rt: HostRuntime) -> Result<(), Fail> {
+    // 2^33 + 1 at 0 and 2^33 + 3 at 2^33: beside the point halfway, 2^33 + 2; far beyond, 2^33 + 1 + 2^36 / 2^32.
+    let wide = table(
+        rt.alloc(),
+        &[0, 1 << 33],
+        &[0, 1 << 33],
+        &[8589934593, 8589934595, 8589934593, 8589934595],
+    )?;
+    assert_eq!(rt;
+        wide.look(Micro(77), Micro(1 << 32), true),
+        Micro(8589934594)
+    );
+    assert_eq!(rt;
+        wide.look(Micro(i64::MAX), Micro(i64::MAX), true),
+        Micro(8589934609)
+    );
+    Ok(())
+}
+
+#[test]
+fn refused_tables(rt: HostRuntime) -> Result<(), Fail> {
+    let far = 1 << 34;
+    assert_eq!(rt; refusal(rt.alloc(), &[], &[0], &[])?, Some(TableErr::Shape));
+    assert_eq!(rt;
+        refusal(rt.alloc(), &[0, 0], &[far], &[1])?,
+        Some(TableErr::Shape)
+    );
+    assert_eq!(rt;
+        refusal(rt.alloc(), &[0, 0], &[0], &[1, 2])?,
+        Some(TableErr::NotRising { i: 1 })
+    );
+    assert_eq!(rt;
+        refusal(rt.alloc(), &[0, far], &[3, 2], &[1, 2, 3, 4])?,
+        Some(TableErr::NotRising { i: 3 })
+    );
+    assert_eq!(rt;
+        refusal(rt.alloc(), &[-far, 0], &[far], &[1, 2])?,
+        Some(TableErr::TooWide { i: 0 })
+    );
+    assert_eq!(rt;
+        refusal(rt.alloc(), &[0, far - 1], &[1], &[1, -far])?,
+        Some(TableErr::TooWide { i: 4 })
     );
     Ok(())
 }

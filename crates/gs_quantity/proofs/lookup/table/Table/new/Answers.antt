@@ -1,0 +1,12 @@
+use Rattle.std.proofs.Common.{sym}
+use Rattle.gs_quantity.proofs.Causes.{fault_cause}
+use Rattle.gs_quantity.proofs.Tables.{table_from}
+use Rattle.gs_quantity.proofs.lookup.table.Table.new.Goals as goal
+
+pub make-requires : goal.make-requires
+make-requires c = table_from c.new-xs.result c.new-ys.result c.new-zs.result (sym c.in-None.ensures)
+
+pub returns-in-Some-clause-cause : goal.returns-in-Some-clause-cause
+returns-in-Some-clause-cause c =
+    let found = rw (c.new-xs.ensures, c.new-ys.ensures, c.new-zs.ensures) at (sym c.in-Some.ensures) in
+    fault_cause c.args.xs.items c.args.ys.items c.args.zs.items c.in-Some.error found

@@ -1,0 +1,95 @@
+// Where a query falls on an axis.
+ghost use Rattle.std.specs.Prelude.{◌≡◌, ℕ, ◌+◌, ◌<◌, ◌≤◌, ◌^◌, nat_abs, length, pos, int_lt, ◌-ℤ◌, ◌≢◌};
+ghost use Rattle.gs_quantity.specs.Lookup.{at, segment_of, held_query, IsAxis};
+ghost use Rattle.gs_quantity.specs.Spots.{spot_between, spot_of, IsSpot};
+
+use crate::lookup::micros::Micros;
+use crate::micro::Micro;
+
+/// The two points about a query, by their places, and the query's place between them: `after` is from the query to the
+/// high one, `before` from the low one to the query, `span` from the low one to the high one. On an axis of one point
+/// both are that point, and all weight lies on the low one.
+#[derive(Drop)]
+pub struct Spot {
+    pub low: usize,
+    pub high: usize,
+    pub before: Micro,
+    pub after: Micro,
+    pub span: Micro,
+}
+
+// Queries are held to 0 .. 2^36.
+pub fn hold_query(query: Micro) -> Micro
+    ensures value { result ≡ held_query query }
+    ensures small { nat_abs result ≤ 2 ^ 36 }
+{
+    Micro(query.0.clamp(0, 1 << 36))
+}
+
+fn is_above(point: Micro, query: Micro) -> bool
+    ensures { result ≡ int_lt query point }
+{
+    point.0 > query.0
+}
+
+// The difference of two quantities.
+fn minus(a: Micro, b: Micro) -> Micro
+    requires left { nat_abs a ≤ 2 ^ 36 }
+    requires right { nat_abs b ≤ 2 ^ 36 }
+    ensures { result ≡ a -ℤ b }
+{
+    Micro(a.0 - b.0)
+}
+
+// The greatest place with a point after it whose own point is at or below the query, or 0.
+fn segment(points: &Micros, query: Micro) -> usize
+    requires { IsAxis points.now }
+    ensures value { result ≡ segment_of points.now query }
+    ensures within { length points.now ≢ 1 → result + 1 < length points.now }
+{
+    let last = points.len().saturating_sub(2);
+    let mut place = 0;
+    while place < last {
+        if is_above(points.at(place + 1), query) {
+            break;
+        }
+        place += 1;
+    }
+    place
+}
+
+fn between(place: usize, low: Micro, high: Micro, query: Micro) -> Spot
+    requires place { place < 64 }
+    requires low { nat_abs low ≤ 2 ^ 34 }
+    requires high { nat_abs high ≤ 2 ^ 34 }
+    requires query { nat_abs query ≤ 2 ^ 36 }
+    ensures { result ≡ spot_between place low high query }
+{
+    Spot {
+        low: place,
+        high: place + 1,
+        before: minus(query, low),
+        after: minus(high, query),
+        span: minus(high, low),
+    }
+}
+
+/// Where a query falls on an axis.
+pub fn find_spot(points: &Micros, query: Micro) -> Spot
+    requires axis { IsAxis points.now }
+    requires query { nat_abs query ≤ 2 ^ 36 }
+    ensures value { result ≡ spot_of points.now query }
+    ensures small { IsSpot (length points.now) result }
+{
+    if points.len() == 1 {
+        return Spot {
+            low: 0,
+            high: 0,
+            before: Micro(0),
+            after: Micro(1),
+            span: Micro(1),
+        };
+    }
+    let place = segment(points, query);
+    between(place, points.at(place), points.at(place + 1), query)
+}
