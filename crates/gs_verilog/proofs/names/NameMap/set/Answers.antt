@@ -6,4 +6,4 @@ use Rattle.gs_verilog.proofs.names.NameMap.set.Goals as goal
 pub returns-in-Some-clause-updates : goal.returns-in-Some-clause-updates
 returns-in-Some-clause-updates c =
     found_after c.args.self.now (record { map = c.get_mut.follows.lender c.args.number }) (c.head.result, c.args.name) c.args.name.now (Some c.args.number)
-      c.head.ensures refl ((c.get_mut.follows.holds c.args.number).3 (search rules)).0
+    c.head.ensures refl ((c.get_mut.follows.holds c.args.number).3 (search rules)).0
