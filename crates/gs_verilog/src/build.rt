@@ -134,7 +134,7 @@ impl<'a> Builder<'a> {
             return Ok(());
         }
         let name = Name::copy_of(alloc, pin)?;
-        self.pins.insert(pin, count as u32)?;
+        self.pins.set(pin, count as u32)?;
         add_link(&mut self.insts, Link { pin: name, net })?;
         Ok(())
     }

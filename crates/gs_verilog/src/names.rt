@@ -55,4 +55,18 @@ impl<'a> NameMap<'a> {
         let old = self.map.insert((head(name), name), number)?;
         Ok(old)
     }
+
+    /// Gives a name a number, whether it had one or not.
+    pub fn set(&mut self, name: &'a [u8], number: u32) -> Result<(), StepErr>
+        ensures updates { OnOk result ((q : List ℕ) → find self.new q ≡ update bytes_eq (find self.old) name.now (Some number) q) }
+        ensures err { IfErr result (λ e. e ≡ StepErr.Mem) }
+    {
+        let key = (head(name), name);
+        if let Some(place) = self.map.get_mut(&key) {
+            *place = number;
+            return Ok(());
+        }
+        self.insert(name, number)?;
+        Ok(())
+    }
 }

@@ -1,11 +1,12 @@
 //! The reader: a place in the form, and the netlist so far.
 #![tactic(auto)]
 
-ghost use Rattle.std.specs.Prelude.{◌≡◌, ◌<◌, ◌≤◌, ◌+◌, ◌^◌, length, IfOk, IfErr, MatchResult, Ok, Some};
+ghost use Rattle.std.specs.Prelude.{◌≡◌, true, false, ◌<◌, ◌≤◌, ◌+◌, ◌^◌, length, IfOk, IfErr, MatchResult, Ok, Some};
 ghost use Rattle.gs_text.specs.declared.kinds.Kind.{Kind};
 ghost use Rattle.gs_verilog.specs.Circuit.{IsNetlist};
+ghost use Rattle.gs_verilog.specs.declared.machine.Place.{Place};
 ghost use Rattle.gs_verilog.specs.Index.{IsIndexed, StepFails, built, state_of};
-ghost use Rattle.gs_verilog.specs.Machine.{Fails, arrived, at_end, named_before, start, step};
+ghost use Rattle.gs_verilog.specs.Machine.{Fails, arrived, at_end, has_pin, named_before, start, step};
 
 use crate::build::Builder;
 use crate::error::{StepErr, VerilogErr};
@@ -40,59 +41,45 @@ impl<'a> Reader<'a> {
         }
     }
 
-    /// Takes a token that the form allows, and goes on to the next place.
-    fn enter(&mut self, alloc: Global, to: Place, text: &'a [u8]) -> Result<(), StepErr>
+    /// Keeps a pin's name, which the last instance may not have.
+    fn keep_pin(&mut self, text: &'a [u8]) -> Result<(), StepErr>
+        requires indexed { IsIndexed self.old.built }
+        ensures free { IfOk result (λ _. has_pin (built self.old.built) text.now ≡ false) }
+        ensures ok { IfOk result (λ _. state_of self.new ≡ record (state_of self.old) { pin = text.now }) }
+        ensures built { self.new.built ≡ self.old.built }
+        ensures err { IfErr result (λ e. (e ≡ StepErr.Twice) × (has_pin (built self.old.built) text.now ≡ true)) }
+    {
+        if self.built.has_pin(text) {
+            return Err(StepErr::Twice);
+        }
+        self.pin = text;
+        Ok(())
+    }
+
+    /// Keeps what a token that the form allows tells at its place.
+    fn keep(&mut self, alloc: Global, text: &'a [u8]) -> Result<(), StepErr>
         requires indexed { IsIndexed self.old.built }
         requires room { length self.old.built.nets.names.items < 2 ^ 32 }
         requires few { length self.old.built.insts.items < 2 ^ 32 }
         ensures indexed { IfOk result (λ _. IsIndexed self.new.built) }
-        ensures ok { IfOk result (λ _. arrived named_before (Some to) (state_of self.old) text.now ≡ Ok (state_of self.new)) }
-        ensures err { IfErr result (λ e. StepFails e (arrived named_before (Some to) (state_of self.old) text.now)) }
+        ensures ok { IfOk result (λ _. (to : Place) → arrived named_before (Some to) (state_of self.old) text.now ≡ Ok (record (state_of self.new) { place = to })) }
+        ensures err { IfErr result (λ e. (to : Place) → StepFails e (arrived named_before (Some to) (state_of self.old) text.now)) }
     {
         match self.place {
             Place::Title => {
                 self.built.name = text;
-                self.place = to;
                 Ok(())
             }
             Place::Items => {
                 self.cell = text;
-                self.place = to;
                 Ok(())
             }
-            Place::Names(Role::Input) => {
-                self.built.direct(alloc, true, text)?;
-                self.place = to;
-                Ok(())
-            }
-            Place::Names(Role::Output) => {
-                self.built.direct(alloc, false, text)?;
-                self.place = to;
-                Ok(())
-            }
-            Place::Names(Role::Wire) => {
-                self.built.wire(alloc, text)?;
-                self.place = to;
-                Ok(())
-            }
-            Place::Instance => {
-                self.built.begin(alloc, self.cell, text)?;
-                self.place = to;
-                Ok(())
-            }
-            Place::Pin => {
-                if self.built.has_pin(text) {
-                    return Err(StepErr::Twice);
-                }
-                self.pin = text;
-                self.place = to;
-                Ok(())
-            }
-            Place::Net => {
-                self.built.connect(alloc, self.pin, text)?;
-                self.place = to;
-                Ok(())
-            }
+            Place::Names(Role::Input) => self.built.direct(alloc, true, text),
+            Place::Names(Role::Output) => self.built.direct(alloc, false, text),
+            Place::Names(Role::Wire) => self.built.wire(alloc, text),
+            Place::Instance => self.built.begin(alloc, self.cell, text),
+            Place::Pin => self.keep_pin(text),
+            Place::Net => self.built.connect(alloc, self.pin, text),
             Place::Start
             | Place::Titled
             | Place::Header
@@ -107,11 +94,22 @@ impl<'a> Reader<'a> {
             | Place::Linked
             | Place::NextPin
             | Place::Closed
-            | Place::End => {
-                self.place = to;
-                Ok(())
-            }
+            | Place::End => Ok(()),
         }
+    }
+
+    /// Takes a token that the form allows, and goes on to the next place.
+    fn enter(&mut self, alloc: Global, to: Place, text: &'a [u8]) -> Result<(), StepErr>
+        requires indexed { IsIndexed self.old.built }
+        requires room { length self.old.built.nets.names.items < 2 ^ 32 }
+        requires few { length self.old.built.insts.items < 2 ^ 32 }
+        ensures indexed { IfOk result (λ _. IsIndexed self.new.built) }
+        ensures ok { IfOk result (λ _. arrived named_before (Some to) (state_of self.old) text.now ≡ Ok (state_of self.new)) }
+        ensures err { IfErr result (λ e. StepFails e (arrived named_before (Some to) (state_of self.old) text.now)) }
+    {
+        self.keep(alloc, text)?;
+        self.place = to;
+        Ok(())
     }
 
     /// Takes a token.
