@@ -1,0 +1,29 @@
+//! The reader of Liberty texts: bytes to a tree of groups, after the syntax of the Liberty reference manual, in this
+//! project's own profile.
+//!
+//! [`read_tree`] answers the one [`Group`] that the whole text is, or the one place at which it stops being a text of the
+//! form. Its contract says both ways what is read: it answers `Ok` exactly on the texts of the form whose groups are at
+//! most 64 deep, with the one tree, and each refusal comes by its exact cause. Want of memory is the one answer that may
+//! come at any point. What the names mean is not looked at here: an unknown attribute is as good as a known one.
+//!
+//! - `specs/Tree.antt`: the form, as whole trees with their spelling.
+//! - `specs/Text.antt`: the group that a tree stands for, and how deep it may be.
+//! - `specs/Refusal.antt`: the cause of each refusal, as fronts of the form.
+//! - `specs/Machine.antt`: the same answer as a function of the tokens, one by one.
+//!
+//! Reading takes one pass over the bytes and one over the pieces. The open groups stand in a list, so nothing recurses
+//! while a text is read. The tree owns its names.
+//!
+//! A new kind of item is a case of `Content` in `specs/Tree.antt`, arms of the steps in `specs/Machine.antt`, and the
+//! same arms of `Reader`.
+#![tactic(auto)]
+
+mod error;
+mod read;
+mod reader;
+mod token;
+mod tree;
+
+pub use error::LibTextErr;
+pub use read::read_tree;
+pub use tree::{Group, Item};
