@@ -1,16 +1,15 @@
 -- The causes of the cutting's errors, in plain words.
-use Rattle.std.proofs.Common.{◌≡◌, ◌≢◌, ◌∙◌, sym, ap, subst, refl, ℕ, zero, suc, ◌+◌, ◌-◌, ◌<◌, ◌≤◌, ◌==◌, ◌&&◌, ◌||◌, nat_lt, Bool, true, false, cond, slice_index, get_or, List, [], ◌∷◌, length, drop, length-drop, Option, None, Some, Result, Ok, Err, add-one, arith}
+use Rattle.std.proofs.Common.{◌≡◌, ◌≢◌, ◌∙◌, sym, ap, subst, refl, ℕ, zero, suc, ◌+◌, ◌-◌, ◌<◌, ◌≤◌, ◌==◌, ◌&&◌, ◌||◌, nat_lt, Bool, true, false, slice_index, get_or, List, [], ◌∷◌, length, drop, length-drop, Option, None, Some, Result, Ok, Err, arith}
 use Rattle.std.proofs.lemmas.Bool.Decides.{nat_tests}
 use Rattle.std.proofs.lemmas.List.{drop-drop, get_or-drop}
 use Rattle.gs_text.specs.Bytes.{is_white, is_word_byte, is_liberty_mark}
 use Rattle.gs_text.specs.Cut.{cut, put, onto, line_after, pieces}
 use Rattle.gs_text.specs.Faults.{first_unbuilt, IsOpenString, IsOpenComment, HasCause, IsBuilt}
-use Rattle.gs_text.specs.Front.{front, begins_unbuilt, until, is_quote, closes_comment, ends_liberty_word, string_front, comment_front, word_len}
-use Rattle.gs_text.proofs.FrontLaws.{either, Free, after_first, word_len-free}
+use Rattle.gs_text.specs.Front.{front, begins_unbuilt, until, is_quote, closes_comment, word_len}
+use Rattle.gs_text.proofs.FrontLaws.{either, Free, word_len-free}
 use Rattle.gs_text.proofs.Styles.{pieces-comes}
 use Rattle.gs_text.proofs.Until.{until-before}
-use Rattle.gs_text.specs.declared.kinds.Kind.{Kind}
-use Rattle.gs_text.specs.declared.kinds.Kind.TheVariants.{Word, Text, Mark}
+use Rattle.gs_text.specs.declared.kinds.Kind.TheVariants.{Word, Mark}
 use Rattle.gs_text.specs.declared.kinds.Piece.{Piece}
 use Rattle.gs_text.specs.declared.kinds.Style.{Style}
 use Rattle.gs_text.specs.declared.kinds.Style.TheVariants.{Verilog, Lib}

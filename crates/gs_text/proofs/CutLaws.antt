@@ -5,6 +5,8 @@ use Rattle.std.proofs.lemmas.List.Sums.{sum_by-cons}
 use Rattle.std.specs.List.{count_by}
 use Rattle.gs_text.specs.Cut.{cut, put, onto, line_after, pieces}
 use Rattle.gs_text.specs.Front.{front}
+use Rattle.gs_text.specs.Pieces.{IsOneLine}
+use Rattle.gs_text.proofs.FrontLaws.{one_line}
 use Rattle.gs_text.specs.declared.kinds.Kind.{Kind}
 use Rattle.gs_text.specs.declared.kinds.Piece.{Piece}
 use Rattle.gs_text.specs.declared.kinds.Style.{Style}
@@ -90,6 +92,12 @@ module _ (style : Style) (bs : List ℕ) (at line : ℕ) (found : List Piece) (l
       let later : cut style (line + breaks (take len (drop at bs))) (at + len) 0 (drop len (drop at bs)) ≡ cut style (line + breaks (take len (drop at bs))) (at + len) 0 (drop (at + len) bs) =
       ap (λ r. cut style (line + breaks (take len (drop at bs))) (at + len) 0 r) (drop-drop len at bs) in
       onto-append found (p ∷ []) (cut style (line + breaks (take len (drop at bs))) (at + len) 0 (drop (at + len) bs)) ∙ cc (so_far, step', later)
+
+  -- a word or a mark that begins at the place stands on one line
+  pub on_one_line : (kind : Kind) (len : ℕ) → Found kind len ≡ front style byte rest → IsOneLine kind (take (at + len - at) (drop at bs))
+  on_one_line kind len e =
+      let size : at + len - at ≡ len = omega arith in
+      rw (size, split) (one_line style byte rest kind len e)
 
   pub goes_past : (len : ℕ) → Passed len ≡ front style byte rest → 0 < len → at + len ≤ length bs
       → onto found (cut style (line + breaks (take len (drop at bs))) (at + len) 0 (drop (at + len) bs)) ≡ pieces style bs

@@ -1,13 +1,15 @@
 -- What is found at a byte ends within the text, and a word that is found has no white.
-use Rattle.std.proofs.Common.{◌≡◌, ◌∙◌, ap, refl, ℕ, zero, suc, ◌+◌, ◌-◌, ◌<◌, ◌≤◌, ◌==◌, ◌&&◌, ◌||◌, nat_lt, slice_index, get_or, length-drop, Bool, true, false, cond, List, [], ◌∷◌, length, drop, arith, inl, inr, subst}
-use Rattle.std.specs.List.{prefix_len}
+use Rattle.std.proofs.Common.{◌≡◌, ◌∙◌, ap, refl, ℕ, zero, suc, ◌+◌, ◌-◌, ◌<◌, ◌≤◌, ◌==◌, ◌&&◌, ◌||◌, nat_lt, slice_index, get_or, length-drop, Bool, true, false, cond, List, [], ◌∷◌, length, drop, take, arith, inl, inr, subst, sym}
+use Rattle.std.specs.List.{prefix_len, count_by}
 use Rattle.std.proofs.lemmas.Bool.Decides.{nat_tests}
 use Rattle.std.proofs.lemmas.Bool.{cases_lt}
 use Rattle.std.proofs.lemmas.List.{get_or_past, get_or-drop}
-use Rattle.std.proofs.lemmas.List.Sums.{prefix_len-le-length, prefix_len_passes}
+use Rattle.std.proofs.lemmas.List.Sums.{prefix_len-le-length, prefix_len_passes, sum_by-cons}
 use Rattle.gs_text.proofs.Until.{until-le-length, until-before, until-at}
 use Rattle.gs_text.specs.Bytes.{is_white, is_digit, is_word_byte, is_liberty_mark}
 use Rattle.gs_text.specs.Front.{front, FitsIn, word_len, index_len, closed_len, begins_unbuilt, until, is_quote, closes_comment, ends_liberty_word, string_front, comment_front}
+use Rattle.gs_text.specs.Pieces.{IsOneLine}
+use Rattle.gs_text.specs.declared.kinds.Kind.{Kind}
 use Rattle.gs_text.specs.declared.kinds.Kind.TheVariants.{Word, Escaped, Text, Mark}
 use Rattle.gs_text.specs.declared.kinds.Style.{Style}
 use Rattle.gs_text.specs.declared.kinds.Style.TheVariants.{Verilog, Lib}
@@ -147,34 +149,61 @@ word_byte-solid c e = grind (arith, nat_tests)
 not_end : (c next : ℕ) → ends_liberty_word c next ≡ false → is_white c ≡ false
 not_end c next e = grind (arith, nat_tests)
 
+not_newline : (c : ℕ) → is_white c ≡ false → c == 10 ≡ false
+not_newline c e = grind (arith, nat_tests)
+
 not_gap : (c next : ℕ) → is_white c || c == 92 && next == 10 ≡ false → is_white c ≡ false
 not_gap c next e = grind (arith, nat_tests)
 
 liberty_word-solid : (cs : List ℕ) → Solid (until ends_liberty_word cs) cs
 liberty_word-solid cs = λ k lt. not_end (get_or cs k 0) (get_or cs (k + 1) 0) (until-before ends_liberty_word cs k lt)
 
--- what a word or an escaped name takes of these bytes has no white past its opening
+-- what a word, an escaped name or a mark takes of these bytes has no white past its opening
 abbrev pub IsSolidFront : List ℕ → Front → Type 0
 IsSolidFront bs Gap = Unit {0}
 IsSolidFront bs (Found Word len) = Solid len bs
 IsSolidFront bs (Found Escaped len) = (1 < len) × Solid (len - 1) (drop 1 bs)
 IsSolidFront bs (Found Text len) = Unit {0}
-IsSolidFront bs (Found Mark len) = Unit {0}
+IsSolidFront bs (Found Mark len) = Solid len bs
 IsSolidFront bs (Passed len) = Unit {0}
 IsSolidFront bs NotBuilt = Unit {0}
 IsSolidFront bs OpenString = Unit {0}
 IsSolidFront bs OpenComment = Unit {0}
 
+-- one byte that is no white
+one-solid : (c : ℕ) (cs : List ℕ) → is_white c ≡ false → Solid 1 (c ∷ cs)
+one-solid c cs e zero lt = e
+one-solid c cs e (suc k) lt = absurd (omega arith)
+
 pub front-solid : (style : Style) (c : ℕ) (cs : List ℕ) → IsSolidFront (c ∷ cs) (front style c cs)
 front-solid Verilog c cs =
     let P : Front → Type 0 = IsSolidFront (c ∷ cs) in
     either P (is_white c) _ _ (λ _. tt)
-    (λ _. either P (is_word_byte c) _ _ (λ e. after_first is_white word_byte-solid refl refl c (word_len cs) cs (word_byte-solid c e) (word_len-free is_white word_byte-solid refl refl cs))
-    (λ _. either P (begins_unbuilt c cs) _ _ (λ _. tt) (λ _. tt)))
+    (λ gap. either P (is_word_byte c) _ _ (λ e. after_first is_white word_byte-solid refl refl c (word_len cs) cs (word_byte-solid c e) (word_len-free is_white word_byte-solid refl refl cs))
+    (λ _. either P (begins_unbuilt c cs) _ _ (λ _. tt) (λ _. one-solid c cs gap)))
 front-solid Lib c cs =
     let P : Front → Type 0 = IsSolidFront (c ∷ cs) in
     either P (is_white c || c == 92 && slice_index cs 0 == 10) _ _ (λ _. tt)
     (λ gap. either P (c == 34) _ _ (λ _. either P (nat_lt (until is_quote cs) (length cs)) _ _ (λ _. tt) (λ _. tt))
-    (λ _. either P (is_liberty_mark c) _ _ (λ _. tt)
+    (λ _. either P (is_liberty_mark c) _ _ (λ _. one-solid c cs (not_gap c (slice_index cs 0) gap))
     (λ _. either P (c == 47 && slice_index cs 0 == 42) _ _ (λ _. either P (nat_lt (until closes_comment (drop 1 cs)) (length (drop 1 cs))) _ _ (λ _. tt) (λ _. tt))
     (λ _. after_first is_white word_byte-solid refl refl c (until ends_liberty_word cs) cs (not_gap c (slice_index cs 0) gap) (liberty_word-solid cs)))))
+
+-- bytes without white are on one line
+no_breaks : (n : ℕ) (xs : List ℕ) → Solid n xs → count_by (λ c. c == 10) (take n xs) ≡ 0
+no_breaks zero xs solid = refl
+no_breaks (suc n) [] solid = refl
+no_breaks (suc n) (x ∷ xs) solid =
+    let later : count_by (λ c. c == 10) (take n xs) ≡ 0 = no_breaks n xs (λ k lt. solid (suc k) (omega arith)) in
+    let here : x == 10 ≡ false = not_newline x (solid 0 (omega arith)) in
+    sum_by-cons (λ c. cond (c == 10) 1 0) x (take n xs) ∙ cc (later, here)
+
+one_line_of : (kind : Kind) (len : ℕ) (bs : List ℕ) → IsSolidFront bs (Found kind len) → IsOneLine kind (take len bs)
+one_line_of Word len bs solid = no_breaks len bs solid
+one_line_of Escaped len bs solid = tt
+one_line_of Text len bs solid = tt
+one_line_of Mark len bs solid = no_breaks len bs solid
+
+-- a word or a mark that begins stands on one line
+pub one_line : (style : Style) (c : ℕ) (cs : List ℕ) (kind : Kind) (len : ℕ) → Found kind len ≡ front style c cs → IsOneLine kind (take len (c ∷ cs))
+one_line style c cs kind len e = one_line_of kind len (c ∷ cs) (subst (IsSolidFront (c ∷ cs)) (sym e) (front-solid style c cs))

@@ -1,5 +1,5 @@
 -- Each style has its own faults.
-use Rattle.std.proofs.Common.{◌≡◌, sym, subst, refl, ℕ, zero, suc, ◌+◌, ◌==◌, ◌&&◌, ◌||◌, nat_lt, slice_index, List, [], ◌∷◌, length, drop, Result, Ok, Err}
+use Rattle.std.proofs.Common.{◌≡◌, subst, ℕ, zero, suc, ◌+◌, ◌==◌, ◌&&◌, ◌||◌, nat_lt, slice_index, List, [], ◌∷◌, length, drop, Result, Ok, Err}
 use Rattle.gs_text.specs.Bytes.{is_white, is_word_byte, is_liberty_mark}
 use Rattle.gs_text.specs.Cut.{cut, put, onto, line_after, pieces, ComesIn}
 use Rattle.gs_text.specs.Front.{front, begins_unbuilt, until, is_quote, closes_comment}

@@ -1,6 +1,6 @@
 -- Where a piece lies, and what it stands for.
-use Rattle.std.specs.Prelude.{◌≡◌, ℕ, ◌+◌, ◌-◌, ◌<◌, ◌≤◌, false, List, [], ◌∷◌, length, slice_range}
-use Rattle.std.specs.List.{All}
+use Rattle.std.specs.Prelude.{◌≡◌, ℕ, ◌+◌, ◌-◌, ◌<◌, ◌≤◌, ◌==◌, false, List, [], ◌∷◌, length, slice_range}
+use Rattle.std.specs.List.{All, count_by}
 use Rattle.gs_text.specs.Bytes.{is_white}
 use Rattle.gs_text.specs.declared.kinds.Kind.{Kind}
 use Rattle.gs_text.specs.declared.kinds.Kind.TheVariants.{Word, Escaped, Text, Mark}
@@ -46,3 +46,10 @@ HasGoodText Mark text = Unit {0}
 abbrev pub InOrder : (at : ℕ) → List Piece → Type 0
 InOrder at [] = Unit {0}
 InOrder at (p ∷ ps) = (at ≤ p.from) × InOrder p.to ps
+
+-- a word or a mark has no newline
+abbrev pub IsOneLine : Kind → List ℕ → Type 0
+IsOneLine Word bytes = count_by (λ c. c == 10) bytes ≡ 0
+IsOneLine Escaped bytes = Unit {0}
+IsOneLine Text bytes = Unit {0}
+IsOneLine Mark bytes = count_by (λ c. c == 10) bytes ≡ 0

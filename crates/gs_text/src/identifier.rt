@@ -10,14 +10,18 @@ ghost use Rattle.std.specs.Cmp.Rules.{comparing};
 ghost use Rattle.std.specs.Ordering.{as_partial_cmp, nat_cmp};
 ghost use Rattle.std.specs.Str.{bytes_eq};
 
+use smallvec::SmallVec;
 use std::alloc::{AllocError, Global};
 use std::cmp::Ordering;
 use std::marker::Model;
 
-/// A name, as a list of bytes. It owns its memory. Contracts see the list.
+/// How many bytes a name keeps in itself; a longer one has memory of its own. A `Name` so takes no more than a `Vec`.
+const INLINE: usize = 16;
+
+/// A name, as a list of bytes. It owns its bytes, and takes memory only where they are more than 16. Contracts see the list.
 #[derive(Debug, Drop)]
 pub struct Name {
-    bytes: Vec<u8>,
+    bytes: SmallVec<u8, INLINE>,
 }
 
 impl Model for Name {
@@ -34,7 +38,7 @@ impl Name {
         ensures { result ≡ [] }
     {
         Name {
-            bytes: Vec::new(alloc),
+            bytes: SmallVec::new(alloc),
         }
     }
 
@@ -42,7 +46,7 @@ impl Name {
     pub fn copy_of(alloc: Global, text: &[u8]) -> Result<Name, AllocError>
         ensures { IfOk result (λ n. n ≡ text.now) }
     {
-        let bytes = Vec::from_slice(alloc, text)?;
+        let bytes = SmallVec::from_slice(alloc, text)?;
         Ok(Name { bytes })
     }
 

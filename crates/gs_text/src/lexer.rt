@@ -6,7 +6,7 @@ ghost use Rattle.std.specs.List.{All, count_by};
 ghost use Rattle.gs_text.specs.Cut.{ComesIn, Fails, line_after, pieces};
 ghost use Rattle.gs_text.specs.Faults.{HasCause, IsBuilt};
 ghost use Rattle.gs_text.specs.Front.{FitsIn, front};
-ghost use Rattle.gs_text.specs.Pieces.{HasGoodText, InOrder, LiesIn, closing_len, opening_len, text_of};
+ghost use Rattle.gs_text.specs.Pieces.{HasGoodText, InOrder, IsOneLine, LiesIn, closing_len, opening_len, text_of};
 
 use crate::kinds::{Kind, Piece, Style, TextErr};
 use crate::liberty::begins_liberty;
@@ -40,6 +40,18 @@ fn line_breaks(bytes: &[u8]) -> usize
     ensures within { result ≤ length bytes.now }
 {
     bytes.iter().filter(|b| **b == b'\n').count()
+}
+
+/// How many newlines are in a piece of this kind. Only a string is looked at, since no other piece has one.
+fn piece_breaks(kind: Kind, bytes: &[u8]) -> usize
+    requires { IsOneLine kind bytes.now }
+    ensures value { result ≡ count_by (λ c. c == 10) bytes.now }
+    ensures within { result ≤ length bytes.now }
+{
+    match kind {
+        Kind::Word | Kind::Mark => 0,
+        Kind::Escaped | Kind::Text => line_breaks(bytes),
+    }
 }
 
 /// The pieces of the text, in order, by the rules of the style (`front` in `specs/Front.antt`).
@@ -83,7 +95,7 @@ pub fn pieces(alloc: Global, style: Style, bytes: &[u8]) -> Result<Vec<Piece>, T
                     to: to as u32,
                     line,
                 })?;
-                line += line_breaks(&bytes[at..to]) as u32;
+                line += piece_breaks(kind, &bytes[at..to]) as u32;
                 at = to;
             }
             Front::Passed(len) => {

@@ -1,7 +1,7 @@
 use Rattle.std.proofs.Common.{◌+◌, ◌≤◌, arith, length, refl}
 use Rattle.gs_text.proofs.Causes.{causes, built}
-use Rattle.gs_text.proofs.CutLaws.{passes, finds, goes_past, stops, ends, length-rest, breaks_within, part}
-use Rattle.gs_text.proofs.Styles.{pieces-comes, memory-comes}
+use Rattle.gs_text.proofs.CutLaws.{passes, finds, on_one_line, goes_past, stops, ends, length-rest, breaks_within, part}
+use Rattle.gs_text.proofs.Styles.{pieces-comes}
 use Rattle.gs_text.proofs.Follow.{pieces_inside, pieces_good, pieces_in_order, pieces_few}
 use Rattle.gs_text.specs.declared.kinds.TextErr.{TextErr}
 use Rattle.gs_text.specs.declared.scan.Front.TheVariants.{NotBuilt, OpenString, OpenComment}
@@ -17,22 +17,22 @@ loop-at-preserved-in-Gap c = record {
 pub loop-at-preserved-in-Found : goal.loop-at-preserved-in-Found
 loop-at-preserved-in-Found c = record {
   within = omega (arith, c.in-Found.ensures.fits.2, length-rest c.args.bytes.now (c.loop-at.at + 1));
-  lines = omega (arith, breaks_within c.args.bytes.now c.loop-at.at c.in-Found.len c.line_breaks.result c.line_breaks.ensures.within);
+  lines = omega (arith, breaks_within c.args.bytes.now c.loop-at.at c.in-Found.len c.piece_breaks.result c.piece_breaks.ensures.within);
   so_far =
       let fits : c.loop-at.at + c.in-Found.len ≤ length c.args.bytes.now =
       omega (arith, c.in-Found.ensures.fits.2, length-rest c.args.bytes.now (c.loop-at.at + 1)) in
-      rw (c.in_ok-push-in-Found.ensures.items, c.line_breaks.ensures.value, part c.loop-at.at c.in-Found.len)
+      rw (c.in_ok-push-in-Found.ensures.items, c.piece_breaks.ensures.value, part c.loop-at.at c.in-Found.len)
       (finds c.args.style c.args.bytes.now c.loop-at.at c.loop-at.line c.loop-at.found.items c.loop-at-test.true c.loop-at.invariant.so_far c.in-Found.kind c.in-Found.len c.in-Found.ensures.value c.in-Found.ensures.fits.1 fits);
 }
 
 pub loop-at-preserved : goal.loop-at-preserved
 loop-at-preserved c = record {
   within = omega (arith, c.in-Passed.ensures.fits.1, length-rest c.args.bytes.now (c.loop-at.at + 1));
-  lines = omega (arith, breaks_within c.args.bytes.now c.loop-at.at c.in-Passed.len c.line_breaks-in-Passed.result c.line_breaks-in-Passed.ensures.within);
+  lines = omega (arith, breaks_within c.args.bytes.now c.loop-at.at c.in-Passed.len c.line_breaks.result c.line_breaks.ensures.within);
   so_far =
       let fits : c.loop-at.at + c.in-Passed.len ≤ length c.args.bytes.now =
       omega (arith, c.in-Passed.ensures.fits.1, length-rest c.args.bytes.now (c.loop-at.at + 1)) in
-      rw (c.line_breaks-in-Passed.ensures.value, part c.loop-at.at c.in-Passed.len)
+      rw (c.line_breaks.ensures.value, part c.loop-at.at c.in-Passed.len)
       (goes_past c.args.style c.args.bytes.now c.loop-at.at c.loop-at.line c.loop-at.found.items c.loop-at-test.true c.loop-at.invariant.so_far c.in-Passed.len c.in-Passed.ensures.value c.in-Passed.ensures.fits.0 fits);
 }
 
@@ -83,3 +83,7 @@ returns-in-OpenComment-clause-cause c = causes c.args.style c.args.bytes.now (Te
 
 pub returns-clause-cause : goal.returns-clause-cause
 returns-clause-cause c = built c.args.style c.args.bytes.now c.loop-at.found.items (returns-clause-exact c)
+
+pub piece_breaks-requires : goal.piece_breaks-requires
+piece_breaks-requires c =
+    on_one_line c.args.style c.args.bytes.now c.loop-at.at c.loop-at.line c.loop-at.found.items c.loop-at-test.true c.loop-at.invariant.so_far c.in-Found.kind c.in-Found.len c.in-Found.ensures.value
