@@ -1,6 +1,6 @@
 -- A content is shallow exactly where each of its groups has room to open.
 
-use Rattle.std.proofs.Common.{◌≡◌, refl, ℕ, ◌+◌, ◌<◌, ◌≤◌, true, nat_lt, max, arith}
+use Rattle.std.proofs.Common.{◌≡◌, refl, ℕ, ◌+◌, ◌<◌, ◌≤◌, true, arith}
 use Rattle.std.proofs.lemmas.Bool.Decides.{nat_tests}
 use Rattle.gs_libtree.specs.Depth.{Fits}
 use Rattle.gs_libtree.specs.Machine.{limit, no_limit}

@@ -1,26 +1,26 @@
 -- What the machine says of a list of tokens, and of the bytes, is what the relation says.
 
-use Rattle.std.proofs.Common.{◌≡◌, ℕ, ◌+◌, ◌-◌, ◌≤◌, ◌⊎◌, inl, inr, Bool, true, false, List, [], ◌∷◌, ◌++◌, length, length-append, refl, sym, ap, subst, ◌∙◌, Result, Ok, Err, arith}
+use Rattle.std.proofs.Common.{◌≡◌, ◌≢◌, ◌⊎◌, ℕ, ◌+◌, ◌-◌, ◌≤◌, inl, inr, Bool, true, false, List, [], ◌∷◌, ◌++◌, length, length-append, refl, sym, ap, subst, ◌∙◌, Result, Ok, Err, arith}
 use Rattle.gs_grammar.specs.Fronts.{IsFrontOf, EndsEarly}
 use Rattle.gs_grammar.specs.Machine.{run}
 use Rattle.gs_grammar.proofs.Refusals.{first_bad, first_broken}
 use Rattle.gs_grammar.proofs.Runs.{stops}
 use Rattle.gs_text.specs.declared.kinds.TextErr.{TextErr}
-use Rattle.gs_libtree.specs.Machine.{State, at, start, step, step_at, limit, no_limit, entered, at_end, ended, reading, judged, outcome, unread}
+use Rattle.gs_libtree.specs.Machine.{State, at, start, step, step_at, limit, no_limit, entered, at_end, ended, reading, judged, outcome}
 use Rattle.gs_libtree.specs.Refusal.{IsLiberty, Cause, HasCause}
-use Rattle.gs_libtree.specs.Text.{LibText, IsText, group_of, depth}
+use Rattle.gs_libtree.specs.Text.{LibText, IsText, depth}
 use Rattle.gs_libtree.specs.Token.{Token, word, quoted, opens, closes, enters, leaves, comma, semicolon, colon, other, tokens}
-use Rattle.gs_libtree.specs.Tree.{Tree, IsForm, spelling}
+use Rattle.gs_libtree.specs.Tree.{IsForm}
 use Rattle.gs_libtree.specs.declared.error.LibTextErr.{LibTextErr}
 use Rattle.gs_libtree.specs.declared.error.StepErr.{StepErr}
 use Rattle.gs_libtree.specs.declared.error.StepErr.TheVariants.{Bad, Deep}
 use Rattle.gs_libtree.specs.declared.reader.Place.{Place}
 use Rattle.gs_libtree.specs.declared.reader.Place.TheVariants.{Start, Named, FirstArg, Arg, NextArg, Closed, Body, FirstValue, Values, Done}
-use Rattle.gs_libtree.specs.declared.tree.Group.{Group}
+use Rattle.gs_libtree.specs.declared.tree.Node.{Node}
 use Rattle.gs_libtree.proofs.Complete.{tree_run}
 use Rattle.gs_libtree.proofs.Deep.{shallow_fits, fits_shallow, all_fit}
 use Rattle.gs_libtree.proofs.Finish.{Kept, kept_run, front}
-use Rattle.gs_libtree.proofs.Left.{TreeLeft, fresh}
+use Rattle.gs_libtree.proofs.Left.{TreeLeft}
 use Rattle.gs_libtree.proofs.Sound.{entered_ok, tree_left}
 
 abbrev strict : State → Token → Result State StepErr
@@ -31,12 +31,12 @@ free = step no_limit
 
 -- ---- trees and runs
 
-text_of_left : (ts : List Token) (r : Group) → TreeLeft limit ts r → LibText ts r
+text_of_left : (ts : List Token) (r : Node) → TreeLeft limit ts r → LibText ts r
 text_of_left ts r q =
     let deep : 1 + depth q.tree.content ≤ 64 = fits_shallow q.tree.content 1 (omega arith) q.fits in
     record { tree = q.tree; spells = q.spells; stands = q.makes; shallow = omega arith }
 
-run_of_text : (ts : List Token) (g : Group) → LibText ts g → run strict start ts ≡ Ok (at Done [] [] (g ∷ []))
+run_of_text : (ts : List Token) (g : Node) → LibText ts g → run strict start ts ≡ Ok (at Done [] [] (g ∷ []))
 run_of_text ts g t =
     ap (run strict start) t.spells ∙ tree_run limit t.tree refl (shallow_fits t.tree.content 1 (omega (arith, t.shallow)))
     ∙ ap (λ k. Ok (at Done [] [] (k ∷ []))) (sym t.stands)
@@ -55,7 +55,7 @@ front_of_form ts s h = let f = front no_limit refl ts s h in (f.0, (f.1.1.tree, 
 
 -- ---- the two rules
 
-looser_at : (p : Place) (t : Token) (n : List ℕ) (vs : List (List ℕ)) (gs : List Group) (m : State)
+looser_at : (p : Place) (t : Token) (n : List ℕ) (vs : List (List ℕ)) (gs : List Node) (m : State)
     → step_at limit p n vs gs t ≡ Ok m → step_at no_limit p n vs gs t ≡ Ok m
 looser_at Closed enters n vs gs m h = (entered_ok (limit (length gs)) n vs gs m h).1
 looser_at _ enters n vs gs m h = h
@@ -72,11 +72,11 @@ looser_at p other n vs gs m h = h
 looser : (s m : State) (t : Token) → strict s t ≡ Ok m → free s t ≡ Ok m
 looser s m t h = looser_at s.place t s.name s.values s.groups m h
 
-not_bad : (b : Bool) (n : List ℕ) (vs : List (List ℕ)) (gs : List Group) → entered b n vs gs ≡ Err Bad → ⊥
+not_bad : (b : Bool) (n : List ℕ) (vs : List (List ℕ)) (gs : List Node) → entered b n vs gs ≡ Err Bad → ⊥
 not_bad true n vs gs h = cc
 not_bad false n vs gs h = cc
 
-bad_at : (p : Place) (t : Token) (n : List ℕ) (vs : List (List ℕ)) (gs : List Group)
+bad_at : (p : Place) (t : Token) (n : List ℕ) (vs : List (List ℕ)) (gs : List Node)
     → step_at limit p n vs gs t ≡ Err Bad → (g : StepErr) × (step_at no_limit p n vs gs t ≡ Err g)
 bad_at Closed enters n vs gs h = absurd (not_bad (limit (length gs)) n vs gs h)
 bad_at _ enters n vs gs h = (Bad, h)
@@ -93,30 +93,50 @@ bad_at p other n vs gs h = (Bad, h)
 bad_is_bad : (s : State) (t : Token) → strict s t ≡ Err Bad → (g : StepErr) × (free s t ≡ Err g)
 bad_is_bad s t h = bad_at s.place t s.name s.values s.groups h
 
-deep_at : (p : Place) (t : Token) (n : List ℕ) (vs : List (List ℕ)) (gs : List Group)
-    → step_at limit p n vs gs t ≡ Err Deep → (m : State) × (step_at no_limit p n vs gs t ≡ Ok m)
-deep_at Closed enters n vs gs h = (_, refl)
-deep_at Named colon n vs [] h = cc
-deep_at Named colon n vs (g ∷ gs) h = cc
-deep_at Closed semicolon n vs [] h = cc
-deep_at Closed semicolon n vs (g ∷ gs) h = cc
-deep_at Body leaves n vs [] h = cc
-deep_at Body leaves n vs (f ∷ []) h = cc
-deep_at Body leaves n vs (f ∷ g ∷ gs) h = cc
-deep_at Start (word t) n vs gs h = cc
-deep_at Named (word t) n vs gs h = cc
-deep_at FirstArg (word t) n vs gs h = cc
-deep_at Arg (word t) n vs gs h = cc
-deep_at NextArg (word t) n vs gs h = cc
-deep_at Closed (word t) n vs gs h = cc
-deep_at Body (word t) n vs gs h = cc
-deep_at FirstValue (word t) n vs gs h = cc
-deep_at Values (word t) n vs gs h = cc
-deep_at Done (word t) n vs gs h = cc
-deep_at _ _ n vs gs h = cc
+entered_deep : (b : Bool) (n : List ℕ) (vs : List (List ℕ)) (gs : List Node) (e : StepErr) → entered b n vs gs ≡ Err e → e ≡ Deep
+entered_deep true n vs gs e h = cc
+entered_deep false n vs gs e h = cc
+
+-- what refuses a token: no text of the form goes on with it, or a group would be too deep, and without the limit it is taken
+abbrev Refuses : Place → List ℕ → List (List ℕ) → List Node → Token → StepErr → Type 0
+Refuses p n vs gs t e = (e ≡ Bad) ⊎ ((e ≡ Deep) × ((m : State) × (step_at no_limit p n vs gs t ≡ Ok m)))
+
+refuses_at : (p : Place) (t : Token) (n : List ℕ) (vs : List (List ℕ)) (gs : List Node) (e : StepErr)
+    → step_at limit p n vs gs t ≡ Err e → Refuses p n vs gs t e
+refuses_at Closed enters n vs gs e h = inr (entered_deep (limit (length gs)) n vs gs e h, (_, refl))
+refuses_at Named colon n vs [] e h = inl cc
+refuses_at Named colon n vs (g ∷ gs) e h = inl cc
+refuses_at Closed semicolon n vs [] e h = inl cc
+refuses_at Closed semicolon n vs (g ∷ gs) e h = inl cc
+refuses_at Body leaves n vs [] e h = inl cc
+refuses_at Body leaves n vs (f ∷ []) e h = inl cc
+refuses_at Body leaves n vs (f ∷ g ∷ gs) e h = inl cc
+refuses_at Start (word t) n vs gs e h = inl cc
+refuses_at Named (word t) n vs gs e h = inl cc
+refuses_at FirstArg (word t) n vs gs e h = inl cc
+refuses_at Arg (word t) n vs gs e h = inl cc
+refuses_at NextArg (word t) n vs gs e h = inl cc
+refuses_at Closed (word t) n vs gs e h = inl cc
+refuses_at Body (word t) n vs gs e h = inl cc
+refuses_at FirstValue (word t) n vs gs e h = inl cc
+refuses_at Values (word t) n vs gs e h = inl cc
+refuses_at Done (word t) n vs gs e h = inl cc
+refuses_at _ _ n vs gs e h = inl cc
+
+deep_by : (s : State) (t : Token) → Refuses s.place s.name s.values s.groups t Deep → (m : State) × (free s t ≡ Ok m)
+deep_by s t (inl e) = cc
+deep_by s t (inr r) = r.1
 
 deep_is_free : (s : State) (t : Token) → strict s t ≡ Err Deep → (m : State) × (free s t ≡ Ok m)
-deep_is_free s t h = deep_at s.place t s.name s.values s.groups h
+deep_is_free s t h = deep_by s t (refuses_at s.place t s.name s.values s.groups Deep h)
+
+mem_by : (s : State) (t : Token) → Refuses s.place s.name s.values s.groups t StepErr.Mem → ⊥
+mem_by s t (inl e) = cc
+mem_by s t (inr r) = cc (r.0)
+
+-- no step wants memory
+pub step_has_memory : (s : State) (t : Token) → strict s t ≢ Err StepErr.Mem
+step_has_memory s t h = mem_by s t (refuses_at s.place t s.name s.values s.groups StepErr.Mem h)
 
 rest-le : (ts : List Token) (f : StepErr) (rest : List Token) → run strict start ts ≡ Err (f, rest) → length rest ≤ length ts
 rest-le ts f rest h =
@@ -128,14 +148,14 @@ rest-le ts f rest h =
 -- ---- the outcome
 
 -- where a run's end is the form's end
-ends : (p : Place) (gs : List Group) (g : Group) (n : ℕ) → Kept p gs → at_end p gs n ≡ Ok g → (p ≡ Done) × (gs ≡ g ∷ [])
+ends : (p : Place) (gs : List Node) (g : Node) (n : ℕ) → Kept p gs → at_end p gs n ≡ Ok g → (p ≡ Done) × (gs ≡ g ∷ [])
 ends Done [] g n k h = absurd k
 ends Done (f ∷ []) g n k h = let same : f ≡ g = cc in (refl, ap (λ x. x ∷ []) same)
 ends Done (f ∷ h ∷ gs) g n k e = absurd k
 ends _ gs g n k h = cc
 
 -- where it isn't
-open_end : (p : Place) (gs : List Group) (n : ℕ) (e : LibTextErr) → at_end p gs n ≡ Err e → LibTextErr.BadPiece n ≡ e
+open_end : (p : Place) (gs : List Node) (n : ℕ) (e : LibTextErr) → at_end p gs n ≡ Err e → LibTextErr.BadPiece n ≡ e
 open_end Done (g ∷ gs) n e h = cc
 open_end Done [] n e h = cc
 open_end Start gs n e h = cc
@@ -148,7 +168,7 @@ open_end Body gs n e h = cc
 open_end FirstValue gs n e h = cc
 open_end Values gs n e h = cc
 
-ok_by : (ts : List Token) (g : Group) (r : Result State (StepErr × List Token)) → run strict start ts ≡ r → ended (length ts) r ≡ Ok g → LibText ts g
+ok_by : (ts : List Token) (g : Node) (r : Result State (StepErr × List Token)) → run strict start ts ≡ r → ended (length ts) r ≡ Ok g → LibText ts g
 ok_by ts g (Ok s) e h =
     let k = ends s.place s.groups g (length ts) (kept_run limit ts start s e tt) h in
     text_of_left ts g (tree_left limit ts s g e k.0 k.1)
@@ -156,10 +176,10 @@ ok_by ts g (Err (Bad, rest)) e h = cc
 ok_by ts g (Err (Deep, rest)) e h = cc
 ok_by ts g (Err (StepErr.Mem, rest)) e h = cc
 
-pub reading_text : (ts : List Token) (g : Group) → reading ts ≡ Ok g → LibText ts g
+pub reading_text : (ts : List Token) (g : Node) → reading ts ≡ Ok g → LibText ts g
 reading_text ts g h = ok_by ts g (run strict start ts) refl h
 
-pub text_reading : (ts : List Token) (g : Group) → LibText ts g → reading ts ≡ Ok g
+pub text_reading : (ts : List Token) (g : Node) → LibText ts g → reading ts ≡ Ok g
 text_reading ts g t = ap (ended (length ts)) (run_of_text ts g t)
 
 early : (ts : List Token) (s : State) (e : LibTextErr) → run strict start ts ≡ Ok s → at_end s.place s.groups (length ts) ≡ Err e → EndsEarly IsText ts (length ts)
@@ -192,20 +212,20 @@ cause_by ts e (Err (StepErr.Mem, rest)) h k =
     let same : LibTextErr.Mem ≡ e = cc in
     subst (Cause (Ok ts)) same tt
 
-reading_cause : (ts : List Token) (e : LibTextErr) → reading ts ≡ Err e → Cause (Ok ts) e
+pub reading_cause : (ts : List Token) (e : LibTextErr) → reading ts ≡ Err e → Cause (Ok ts) e
 reading_cause ts e h = cause_by ts e (run strict start ts) refl h
 
 -- ---- on the bytes
 
-ok_bytes_by : (bytes : List ℕ) (g : Group) (found : Result (List Token) TextErr) → tokens bytes ≡ found → judged found ≡ Ok g → IsLiberty bytes g
+ok_bytes_by : (bytes : List ℕ) (g : Node) (found : Result (List Token) TextErr) → tokens bytes ≡ found → judged found ≡ Ok g → IsLiberty bytes g
 ok_bytes_by bytes g (Ok ts) e h = (ts, e, reading_text ts g h)
 ok_bytes_by bytes g (Err x) e h = cc
 
 -- the outcome is a group exactly where the bytes stand for it,
-pub ok_bytes : (bytes : List ℕ) (g : Group) → outcome bytes ≡ Ok g → IsLiberty bytes g
+pub ok_bytes : (bytes : List ℕ) (g : Node) → outcome bytes ≡ Ok g → IsLiberty bytes g
 ok_bytes bytes g h = ok_bytes_by bytes g (tokens bytes) refl h
 
-pub bytes_ok : (bytes : List ℕ) (g : Group) → IsLiberty bytes g → outcome bytes ≡ Ok g
+pub bytes_ok : (bytes : List ℕ) (g : Node) → IsLiberty bytes g → outcome bytes ≡ Ok g
 bytes_ok bytes g v = ap judged v.1 ∙ text_reading v.0 g v.2
 
 err_by : (e : LibTextErr) (found : Result (List Token) TextErr) → judged found ≡ Err e → Cause found e

@@ -1,5 +1,7 @@
+pub mod Bytes
 pub mod Complete
 pub mod Deep
+pub mod Exact
 pub mod Finish
 pub mod Groups
 pub mod Laws

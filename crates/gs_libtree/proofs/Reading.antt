@@ -1,6 +1,6 @@
 -- The reader's loop, and the clauses of the public call.
 
-use Rattle.std.proofs.Common.{◌≡◌, ℕ, ◌+◌, ◌-◌, ◌<◌, ◌≤◌, List, [], ◌∷◌, length, get_or, drop, map, refl, sym, ap, subst, ◌∙◌, inl, inr, Result, Ok, Err, IfOk, IfErr, MatchResult, arith}
+use Rattle.std.proofs.Common.{◌≡◌, ℕ, ◌+◌, ◌-◌, ◌<◌, ◌≤◌, List, length, get_or, drop, map, refl, sym, ap, subst, ◌∙◌, inl, inr, Result, Ok, Err, IfOk, IfErr, MatchResult, arith}
 use Rattle.std.proofs.lemmas.List.{length-drop, length-map}
 use Rattle.std.proofs.Math.ListN.{get_or-map}
 use Rattle.gs_grammar.specs.Machine.{run}
@@ -19,7 +19,7 @@ use Rattle.gs_libtree.specs.declared.token.Class.{Class}
 use Rattle.gs_libtree.specs.declared.error.LibTextErr.{LibTextErr}
 use Rattle.gs_libtree.specs.declared.error.StepErr.{StepErr}
 use Rattle.gs_libtree.specs.declared.error.StepErr.TheVariants.{Bad, Deep, Mem}
-use Rattle.gs_libtree.specs.declared.tree.Group.{Group}
+use Rattle.gs_libtree.specs.declared.tree.Node.{Node}
 use Rattle.gs_libtree.proofs.Laws.{ok_bytes, bytes_ok, err_bytes}
 
 -- ---- the loop
@@ -77,10 +77,10 @@ module _ (bytes : List ℕ) (ps : List Piece) where
       let all = done (step limit) s tokens i (run (step limit) start tokens) (omega arith) so_far in
       ap (ended (length tokens)) all ∙ ap (at_end s.place s.groups) n
 
-abbrev pub Gives : Result Group LibTextErr → Result Group LibTextErr → Type 0
+abbrev pub Gives : Result Node LibTextErr → Result Node LibTextErr → Type 0
 Gives r x = MatchResult r (λ g. x ≡ Ok g) (λ e. Fails e x)
 
-pub moved : (r x y : Result Group LibTextErr) → y ≡ x → Gives r x → Gives r y
+pub moved : (r x y : Result Node LibTextErr) → y ≡ x → Gives r x → Gives r y
 moved r x y e g = subst (Gives r) (sym e) g
 
 -- ---- the bytes
@@ -94,22 +94,22 @@ unread_fails bytes TextErr.Mem h = inl refl
 pub of_pieces : (bytes : List ℕ) (ps : List Piece) → pieces Lib bytes ≡ Ok ps → outcome bytes ≡ reading (map (token_of bytes) ps)
 of_pieces bytes ps h = ap (λ r. judged (tokens_from bytes r)) h
 
-pub of_pieces_read : (bytes : List ℕ) (found ps : List Piece) (r : Result Group LibTextErr) → pieces Lib bytes ≡ Ok found → ps ≡ found
+pub of_pieces_read : (bytes : List ℕ) (found ps : List Piece) (r : Result Node LibTextErr) → pieces Lib bytes ≡ Ok found → ps ≡ found
     → Gives r (reading (map (token_of bytes) ps)) → Gives r (outcome bytes)
 of_pieces_read bytes found ps r h e g =
     moved r (reading (map (token_of bytes) ps)) (outcome bytes) (of_pieces bytes found h ∙ ap (λ qs. reading (map (token_of bytes) qs)) (sym e)) g
 
 -- ---- the clauses, from the answer as a function of the bytes
 
-pub answers_ok : (bytes : List ℕ) (r : Result Group LibTextErr) → Gives r (outcome bytes) → IfOk r (λ g. IsLiberty bytes g)
+pub answers_ok : (bytes : List ℕ) (r : Result Node LibTextErr) → Gives r (outcome bytes) → IfOk r (λ g. IsLiberty bytes g)
 answers_ok bytes (Ok g) h = ok_bytes bytes g h
 answers_ok bytes (Err e) h = tt
 
-only_err : (bytes : List ℕ) (g : Group) (e : LibTextErr) → outcome bytes ≡ Ok g → Fails e (outcome bytes) → e ≡ LibTextErr.Mem
+only_err : (bytes : List ℕ) (g : Node) (e : LibTextErr) → outcome bytes ≡ Ok g → Fails e (outcome bytes) → e ≡ LibTextErr.Mem
 only_err bytes g e h (inl m) = m
 only_err bytes g e h (inr k) = let never : Ok g ≡ Err e = sym h ∙ k in cc
 
-pub answers_only : (bytes : List ℕ) (r : Result Group LibTextErr) → Gives r (outcome bytes) → (g : Group) → IsLiberty bytes g
+pub answers_only : (bytes : List ℕ) (r : Result Node LibTextErr) → Gives r (outcome bytes) → (g : Node) → IsLiberty bytes g
     → MatchResult r (λ found. found ≡ g) (λ e. e ≡ LibTextErr.Mem)
 answers_only bytes (Ok f) h g v = let both : Ok f ≡ Ok g = sym h ∙ bytes_ok bytes g v in cc
 answers_only bytes (Err e) h g v = only_err bytes g e (bytes_ok bytes g v) h
@@ -118,6 +118,6 @@ cause_of : (bytes : List ℕ) (e : LibTextErr) → Fails e (outcome bytes) → H
 cause_of bytes e (inl m) = subst (HasCause bytes) (sym m) tt
 cause_of bytes e (inr k) = err_bytes bytes e k
 
-pub answers_err : (bytes : List ℕ) (r : Result Group LibTextErr) → Gives r (outcome bytes) → IfErr r (λ e. HasCause bytes e)
+pub answers_err : (bytes : List ℕ) (r : Result Node LibTextErr) → Gives r (outcome bytes) → IfErr r (λ e. HasCause bytes e)
 answers_err bytes (Ok g) h = tt
 answers_err bytes (Err e) h = cause_of bytes e h

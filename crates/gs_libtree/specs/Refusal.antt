@@ -8,10 +8,10 @@ use Rattle.gs_libtree.specs.Token.{Token, tokens}
 use Rattle.gs_libtree.specs.Tree.{IsForm}
 use Rattle.gs_libtree.specs.declared.error.LibTextErr.{LibTextErr}
 use Rattle.gs_libtree.specs.declared.error.LibTextErr.TheVariants.{OpenString, OpenComment, TooDeep, BadPiece, Mem}
-use Rattle.gs_libtree.specs.declared.tree.Group.{Group}
+use Rattle.gs_libtree.specs.declared.tree.Node.{Node}
 
 -- the bytes are a Liberty text that stands for this group
-abbrev pub IsLiberty : List ℕ → Group → Type 0
+abbrev pub IsLiberty : List ℕ → Node → Type 0
 IsLiberty bytes g = (ts : List Token) × (tokens bytes ≡ Ok ts) × LibText ts g
 
 -- the cause of each refusal, on the tokens of the text or the fault that keeps it from having any

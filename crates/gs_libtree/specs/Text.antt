@@ -3,7 +3,7 @@
 use Rattle.std.specs.Prelude.{ℕ, ◌≡◌, ◌≤◌, ◌+◌, max, List, [], ◌∷◌, map}
 use Rattle.gs_libtree.specs.Token.{Token}
 use Rattle.gs_libtree.specs.Tree.{Value, bare, in_quotes, Next, beside, after_comma, Args, no_args, some_args, Content, nothing, stray, simple, complex, subgroup, Tree, spelling}
-use Rattle.gs_libtree.specs.declared.tree.Group.{Group}
+use Rattle.gs_libtree.specs.declared.tree.Node.{Node}
 use Rattle.gs_libtree.specs.declared.tree.Item.{Item}
 use Rattle.gs_libtree.specs.declared.tree.Item.TheVariants.{Simple, Complex, Sub}
 
@@ -28,7 +28,7 @@ items_of (complex n a c) = Complex n (args_texts a) ∷ items_of c
 items_of (subgroup n a i c) = Sub (record { name = n; args = args_texts a; items = items_of i }) ∷ items_of c
 
 -- the group that a tree stands for
-abbrev pub group_of : Tree → Group
+abbrev pub group_of : Tree → Node
 group_of t = record { name = t.name; args = args_texts t.args; items = items_of t.content }
 
 -- how many groups stand in one another in a content
@@ -40,11 +40,11 @@ depth (complex n a c) = depth c
 depth (subgroup n a i c) = max (depth i + 1) (depth c)
 
 -- the tokens are the spelling of a tree that stands for the group, and no group is more than 64 deep
-pub record LibText (ts : List Token) (g : Group) : Type 0 where
+pub record LibText (ts : List Token) (g : Node) : Type 0 where
   pub tree : Tree
   pub spells : ts ≡ spelling tree
   pub stands : g ≡ group_of tree
   pub shallow : depth tree.content + 1 ≤ 64
 
 abbrev pub IsText : List Token → Type 0
-IsText ts = (g : Group) × LibText ts g
+IsText ts = (g : Node) × LibText ts g

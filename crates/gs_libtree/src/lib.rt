@@ -3,11 +3,17 @@
 //!
 //! [`read_tree`] answers the one [`Group`] that the whole text is, or the one place at which it stops being a text of the
 //! form. Its contract says both ways what is read: it answers `Ok` exactly on the texts of the form whose groups are at
-//! most 64 deep, with the one tree, and each refusal comes by its exact cause. Want of memory is the one answer that may
-//! come at any point. What the names mean is not looked at here: an unknown attribute is as good as a known one.
+//! most 64 deep, with the one tree, and each refusal comes exactly where its cause stands. Want of memory is the one
+//! answer that may come at any point. What the names mean is not looked at here: an unknown attribute is as good as a
+//! known one.
+//!
+//! A [`Group`] keeps that all names, args and values in it, those of inner groups among them, have at most 2^28 bytes
+//! together. `Group::root` says so of the [`Node`] that it gives, and `read_tree` that a tree has no more bytes than its
+//! text.
 //!
 //! - `specs/Tree.antt`: the form, as whole trees with their spelling.
 //! - `specs/Text.antt`: the group that a tree stands for, and how deep it may be.
+//! - `specs/Bytes.antt`: how many bytes the names, args and values of a group have together.
 //! - `specs/Refusal.antt`: the cause of each refusal, as fronts of the form.
 //! - `specs/Machine.antt`: the same answer as a function of the tokens, one by one.
 //!
@@ -26,4 +32,4 @@ mod tree;
 
 pub use error::LibTextErr;
 pub use read::read_tree;
-pub use tree::{Group, Item};
+pub use tree::{Group, Item, Node};

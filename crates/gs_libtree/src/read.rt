@@ -1,11 +1,12 @@
 //! Reading a Liberty text.
 #![tactic(auto)]
 
-ghost use Rattle.std.specs.Prelude.{◌≡◌, ◌≤◌, ◌^◌, length, map, IfErr, IfOk, MatchResult, Ok};
+ghost use Rattle.std.specs.Prelude.{◌≡◌, ◌≢◌, ◌⊎◌, ◌≤◌, ◌^◌, length, map, IfErr, IfOk, MatchResult, Ok};
 ghost use Rattle.std.specs.List.{All};
 ghost use Rattle.gs_text.specs.Cut.{ComesIn};
-ghost use Rattle.gs_text.specs.Pieces.{LiesIn};
+ghost use Rattle.gs_text.specs.Pieces.{InOrder, LiesIn};
 ghost use Rattle.gs_text.specs.declared.kinds.Style.{Style};
+ghost use Rattle.gs_libtree.specs.Bytes.{bytes_of};
 ghost use Rattle.gs_libtree.specs.Machine.{Fails, outcome, reading, unread};
 ghost use Rattle.gs_libtree.specs.Reading.{refused};
 ghost use Rattle.gs_libtree.specs.Refusal.{HasCause, IsLiberty};
@@ -14,7 +15,7 @@ ghost use Rattle.gs_libtree.specs.Token.{token_of};
 use crate::error::{LibTextErr, StepErr};
 use crate::reader::Reader;
 use crate::token::class_of;
-use crate::tree::Group;
+use crate::tree::{Group, Node};
 use gs_text::{Piece, Style, TextErr, pieces, text_of};
 use std::alloc::Global;
 
@@ -43,10 +44,12 @@ fn unread(error: TextErr) -> LibTextErr
 }
 
 /// Reads the pieces of a text.
-fn read_pieces(alloc: Global, bytes: &[u8], pieces: &[Piece]) -> Result<Group, LibTextErr>
+fn read_pieces(alloc: Global, bytes: &[u8], pieces: &[Piece]) -> Result<Node, LibTextErr>
     requires few { length pieces.now ≤ 2 ^ 28 }
     requires inside { All (LiesIn (length bytes.now)) pieces.now }
-    ensures { MatchResult result (λ g. reading (map (token_of bytes.now) pieces.now) ≡ Ok g) (λ e. Fails e (reading (map (token_of bytes.now) pieces.now))) }
+    requires ordered { InOrder 0 pieces.now }
+    ensures small { IfOk result (λ g. bytes_of g ≤ length bytes.now) }
+    ensures answer { MatchResult result (λ g. reading (map (token_of bytes.now) pieces.now) ≡ Ok g) (λ e. Fails e (reading (map (token_of bytes.now) pieces.now))) }
 {
     let mut reader = Reader::new(alloc);
     for (i, piece) in pieces.iter().enumerate() {
@@ -60,13 +63,25 @@ fn read_pieces(alloc: Global, bytes: &[u8], pieces: &[Piece]) -> Result<Group, L
 }
 
 /// Reads a text: its pieces, and then these.
-fn read_text(alloc: Global, bytes: &[u8]) -> Result<Group, LibTextErr>
+fn read_text(alloc: Global, bytes: &[u8]) -> Result<Node, LibTextErr>
     requires { length bytes.now ≤ 2 ^ 28 }
-    ensures { MatchResult result (λ g. outcome bytes.now ≡ Ok g) (λ e. Fails e (outcome bytes.now)) }
+    ensures small { IfOk result (λ g. bytes_of g ≤ length bytes.now) }
+    ensures answer { MatchResult result (λ g. outcome bytes.now ≡ Ok g) (λ e. Fails e (outcome bytes.now)) }
 {
     match pieces(alloc, Style::Lib, bytes) {
         Ok(found) => read_pieces(alloc, bytes, found.as_slice()),
         Err(error) => Err(unread(error)),
+    }
+}
+
+/// What is read, as a whole text's group.
+fn whole(read: Result<Node, LibTextErr>) -> Result<Group, LibTextErr>
+    requires { IfOk read (λ g. bytes_of g ≤ 2 ^ 28) }
+    ensures { result ≡ read }
+{
+    match read {
+        Ok(root) => Ok(Group::of(root)),
+        Err(error) => Err(error),
     }
 }
 
@@ -81,13 +96,17 @@ pub fn read_tree(alloc: Global, bytes: &[u8]) -> Result<Group, LibTextErr>
     // What is read is a Liberty text, and stands for this group.
     ensures ok { IfOk result (λ g. IsLiberty bytes.now g) }
     // A text is read as the one group that it stands for, unless memory runs out.
-    ensures only { (g : Group) → IsLiberty bytes.now g → MatchResult result (λ found. found ≡ g) (λ e. e ≡ LibTextErr.Mem) }
-    // Each refusal comes exactly by its cause.
+    ensures only { (g : Node) → IsLiberty bytes.now g → MatchResult result (λ found. found ≡ g) (λ e. e ≡ LibTextErr.Mem) }
+    // Each refusal comes only by its cause,
     ensures err { IfErr result (λ e. HasCause bytes.now e) }
+    // and where a cause stands, its refusal comes, unless memory runs out.
+    ensures exact { (e : LibTextErr) → e ≢ LibTextErr.Mem → HasCause bytes.now e → MatchResult result (λ g. ⊥) (λ f. (f ≡ e) ⊎ (f ≡ LibTextErr.Mem)) }
+    // The names, args and values of what is read have together no more bytes than the text.
+    ensures small { IfOk result (λ g. bytes_of g ≤ length bytes.now) }
     // The answer is a function of the bytes, unless memory runs out.
     ensures function { MatchResult result (λ g. outcome bytes.now ≡ Ok g) (λ e. Fails e (outcome bytes.now)) }
 {
-    let read = read_text(alloc, bytes);
+    let read = whole(read_text(alloc, bytes));
     read
 }
 
@@ -103,6 +122,7 @@ mod tests {
         let text =
             b"library (\"x y\", z) { ; a : b \"c\" ; d (1, \"2\" 3) ; ; cell (w) { e : f ; } }".as_slice();
         let root = read_tree(rt.alloc(), text)?;
+        let root = root.root();
         assert!(rt; root.name.is(b"library") && root.args.len() == 2);
         let shown = match root.items.as_slice() {
             [

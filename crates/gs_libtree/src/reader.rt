@@ -8,7 +8,7 @@ ghost use Rattle.gs_libtree.specs.Token.{closes, colon, comma, enters, leaves, o
 
 use crate::error::{LibTextErr, StepErr};
 use crate::token::Class;
-use crate::tree::{Group, Item};
+use crate::tree::{Item, Node};
 use gs_text::{Name, Names};
 use sqlite_items::Items;
 use std::alloc::Global;
@@ -51,11 +51,11 @@ pub struct Reader {
     /// The words and strings that were read between parentheses, until they are an item's or a group's.
     pub values: Vec<Name>,
     /// The open groups, the innermost last.
-    pub groups: Vec<Group>,
+    pub groups: Vec<Node>,
 }
 
 /// Puts an item to the innermost group.
-fn put_item(groups: &mut Vec<Group>, item: Item) -> Result<(), StepErr>
+fn put_item(groups: &mut Vec<Node>, item: Item) -> Result<(), StepErr>
     ensures ok { IfOk result (λ _. reverse groups.new.items ≡ with_item (reverse groups.old.items) item) }
     ensures err { IfErr result (λ e. e ≡ StepErr.Mem) }
 {
@@ -202,7 +202,7 @@ impl Reader {
         let name = self.take_name(alloc);
         let args = self.take_values(alloc);
         let items = Items::new(alloc);
-        self.groups.push(Group { name, args, items })?;
+        self.groups.push(Node { name, args, items })?;
         self.place = Place::Body;
         Ok(())
     }
@@ -312,7 +312,7 @@ impl Reader {
     }
 
     /// The group, where the tokens ended with it; `count` is their number.
-    pub fn finish(self, count: u32) -> Result<Group, LibTextErr>
+    pub fn finish(self, count: u32) -> Result<Node, LibTextErr>
         ensures { MatchResult result (λ g. at_end self.place (reverse self.groups.items) count ≡ Ok g) (λ e. Fails e (at_end self.place (reverse self.groups.items) count)) }
     {
         let Reader {

@@ -5,8 +5,9 @@
 //! memory for them with exit code 6; it prints nothing in either case.
 #![tactic(auto)]
 
+use gs_quantity::Mem;
 use gs_shelf::HostShelf;
-use gs_top::{Mem, Status, Words, exit_of, run};
+use gs_top::{Status, Words, exit_of, run};
 use std::alloc::Global;
 use std::env;
 use std::process::ExitCode;

@@ -1,5 +1,7 @@
-pub mod Accepted
-pub mod Bytes
+pub mod Form
+pub mod Making
+pub mod Names
+pub mod Reading
 pub mod Refused
 pub mod Said
-pub mod Stored
+pub mod Storing

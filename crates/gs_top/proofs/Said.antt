@@ -1,66 +1,84 @@
--- From the status of the work to that of the whole run: what is left, said and behind it once the line was said.
-use Rattle.std.proofs.Common.{◌≡◌, ◌⊎◌, ℕ, zero, suc, ◌≤◌, List, [], ◌++◌, Option, Some, None, take, length, sym, ◌∙◌, ap, subst, inl, inr, arith, refl}
+-- What the work left and what stood behind it stay while its line is said.
+use Rattle.std.proofs.Common.{◌≡◌, ◌∙◌, ◌⊎◌, refl, sym, ap, subst, inl, inr, ℕ, zero, suc, ◌≤◌, List, [], ◌++◌, length, take, Option, Some, None, arith}
 use Rattle.gs_shelf.specs.Faults.{Counts, Rose, NoneFell}
 use Rattle.gs_shelf.specs.Files.{Files, AllStay, HoldsPart, GrewByPart}
 use Rattle.gs_shelf.specs.declared.calls.Op.{Op}
 use Rattle.gs_shelf.specs.declared.calls.Op.TheVariants.{Fetch, Store, Say}
-use Rattle.gs_verilog.specs.Circuit.{Circuit}
-use Rattle.gs_top.specs.declared.status.Output.TheVariants.{Sizes, Console}
+use Rattle.gs_top.specs.declared.status.Output.{Output}
+use Rattle.gs_top.specs.declared.status.Output.TheVariants.{Sizes, Report, Console}
 use Rattle.gs_top.specs.declared.status.Status.{Status}
-use Rattle.gs_top.specs.declared.status.Status.TheVariants.{Written, Usage, ReadFault, TooLarge, BadText, WriteFault, OutOfMemory}
+use Rattle.gs_top.specs.declared.status.Status.TheVariants.{Written, Usage, ReadFault, TooLarge, BadText, BadLibrary, BadDesign, WriteFault, OutOfMemory}
 use Rattle.gs_top.specs.Job.{Job, job_of}
 use Rattle.gs_top.specs.Line.{line_of, unsaid, Ended, SaidAs}
-use Rattle.gs_top.specs.Run.{Stored, StoredPart, JobLeaves, LeavesOf, Leaves, JobCauses, CausesOf, Causes, NoneRose, IsDone, Says}
+use Rattle.gs_top.specs.Run.{StoredTo, DesignStored, JobRefused, JobLeaves, LeavesOf, Leaves, JobCauses, CausesOf, Causes, input_of, NoneRose, IsDone, Says}
+use Rattle.gs_top.specs.Texts.{sizes_text, report_text}
 
 -- what was left by the work stays while its line is said
 module _ (job : Job) (old mid new : Files) (stay : AllStay mid new) where
-  whole : (c : Circuit) → Stored job old mid c → Stored job old new c
-  whole c s = record { netlist = s.netlist; text = stay job.sizes ∙ s.text; others = λ o ne. stay o ∙ s.others o ne }
+  held : (name text : List ℕ) → HoldsPart name text old mid → HoldsPart name text old new
+  held name text (inl h) = inl (stay name ∙ h)
+  held name text (inr h) = inr (h.0, stay name ∙ h.1)
 
-  held : (text : List ℕ) → HoldsPart job.sizes text old mid → HoldsPart job.sizes text old new
-  held text (inl h) = inl (stay job.sizes ∙ h)
-  held text (inr h) = inr (h.0, stay job.sizes ∙ h.1)
+  stored_stays : (to : Output) (sizes report : List ℕ) → StoredTo to job old mid sizes report → StoredTo to job old new sizes report
+  stored_stays Sizes sizes report h = record { part = held job.sizes sizes h.part; others = λ o ne. stay o ∙ h.others o ne }
+  stored_stays Report sizes report h = record {
+    sizes_hold = stay job.sizes ∙ h.sizes_hold;
+    part = held job.report report h.part;
+    others = λ o ne nf. stay o ∙ h.others o ne nf;
+  }
+  stored_stays Console sizes report h = record {
+    sizes_hold = stay job.sizes ∙ h.sizes_hold;
+    report_holds = stay job.report ∙ h.report_holds;
+    others = λ o ne nf. stay o ∙ h.others o ne nf;
+  }
 
-  some : (c : Circuit) → StoredPart job old mid c → StoredPart job old new c
-  some c s = record { netlist = s.netlist; part = held _ s.part; others = λ o ne. stay o ∙ s.others o ne }
+  design_stays : (to : Output) → DesignStored to job old mid → DesignStored to job old new
+  design_stays to h =
+      record { design = h.design; is = h.is; stored = stored_stays to (sizes_text h.design.circuit.insts) (report_text h.design) h.stored }
 
   all : AllStay old mid → AllStay old new
   all h name = stay name ∙ h name
 
-  any : AllStay old mid ⊎ (((c : Circuit) × StoredPart job old mid c) ⊎ ((c : Circuit) × Stored job old mid c)) → JobLeaves job old new OutOfMemory
+  refused_stays : (s : Status) → JobRefused job old mid s → JobRefused job old new s
+  refused_stays s h = record { refused = h.refused; stay = all h.stay }
+
+  any : AllStay old mid ⊎ ((to : Output) × DesignStored to job old mid) → JobLeaves job old new OutOfMemory
   any (inl h) = inl (all h)
-  any (inr (inl h)) = inr (inl (h.0, some h.0 h.1))
-  any (inr (inr h)) = inr (inr (h.0, whole h.0 h.1))
+  any (inr h) = inr (h.0, design_stays h.0 h.1)
 
   job_stays : (s : Status) → JobLeaves job old mid s → JobLeaves job old new s
-  job_stays (Written instances) h = (h.0, whole h.0 h.1, h.2)
+  unfolding design_stays
+  job_stays (Written instances) h = (design_stays Console h.0, h.1)
   job_stays Usage h = h
-  job_stays (ReadFault file) h = all h
-  job_stays (TooLarge file) h = (h.0, all h.1)
-  job_stays (BadText file why place) h = (h.0, h.1, all h.2)
-  job_stays (WriteFault Sizes) h = (h.0, some h.0 h.1)
-  job_stays (WriteFault Console) h = (h.0, whole h.0 h.1)
+  job_stays (ReadFault file) h = (h.0, all h.1)
+  job_stays (TooLarge file) h = refused_stays (TooLarge file) h
+  job_stays (BadText file why place) h = refused_stays (BadText file why place) h
+  job_stays (BadLibrary e) h = refused_stays (BadLibrary e) h
+  job_stays (BadDesign e) h = refused_stays (BadDesign e) h
+  job_stays (WriteFault file) h = design_stays file h
   job_stays OutOfMemory h = any h
 
 -- a status whose line could not be said, and one lost to want of memory, leave what the work left
 job_unsaid : (job : Job) (old new : Files) (s : Status) → JobLeaves job old new s → JobLeaves job old new (unsaid s)
-job_unsaid job old new (Written instances) h = (h.0, h.1)
+job_unsaid job old new (Written instances) h = h.0
 job_unsaid job old new Usage h = h
 job_unsaid job old new (ReadFault file) h = h
 job_unsaid job old new (TooLarge file) h = h
 job_unsaid job old new (BadText file why place) h = h
-job_unsaid job old new (WriteFault Sizes) h = h
-job_unsaid job old new (WriteFault Console) h = h
+job_unsaid job old new (BadLibrary e) h = h
+job_unsaid job old new (BadDesign e) h = h
+job_unsaid job old new (WriteFault file) h = h
 job_unsaid job old new OutOfMemory h = h
 
 job_lost : (job : Job) (old new : Files) (s : Status) → JobLeaves job old new s → JobLeaves job old new OutOfMemory
-job_lost job old new (Written instances) h = inr (inr (h.0, h.1))
+job_lost job old new (Written instances) h = inr (Console, h.0)
 job_lost job old new Usage h = absurd h
-job_lost job old new (ReadFault file) h = inl h
-job_lost job old new (TooLarge file) h = inl h.1
-job_lost job old new (BadText file why place) h = inl h.2
-job_lost job old new (WriteFault Sizes) h = inr (inl h)
-job_lost job old new (WriteFault Console) h = inr (inr h)
+job_lost job old new (ReadFault file) h = inl h.1
+job_lost job old new (TooLarge file) h = inl h.stay
+job_lost job old new (BadText file why place) h = inl h.stay
+job_lost job old new (BadLibrary e) h = inl h.stay
+job_lost job old new (BadDesign e) h = inl h.stay
+job_lost job old new (WriteFault file) h = inr (file, h)
 job_lost job old new OutOfMemory h = h
 
 stays : (o : Option Job) (old mid new : Files) (s : Status) → AllStay mid new → LeavesOf o old mid s → LeavesOf o old new s
@@ -90,10 +108,13 @@ module _ (old mid new : Counts) (before : NoneFell old mid) (after : NoneFell mi
   job_causes : (job : Job) (s : Status) → JobCauses job old mid s → JobCauses job old new s
   job_causes job (Written instances) h = h
   job_causes job Usage h = h
-  job_causes job (ReadFault file) h = let a = after Fetch job.verilog in omega arith
+  job_causes job (ReadFault file) h = let a = after Fetch (input_of job file) in omega arith
   job_causes job (TooLarge file) h = h
   job_causes job (BadText file why place) h = h
+  job_causes job (BadLibrary e) h = h
+  job_causes job (BadDesign e) h = h
   job_causes job (WriteFault Sizes) h = let a = after Store job.sizes in omega arith
+  job_causes job (WriteFault Report) h = let a = after Store job.report in omega arith
   job_causes job (WriteFault Console) h = let a = after Say [] in omega arith
   job_causes job OutOfMemory h = h
 
@@ -107,8 +128,9 @@ module _ (old mid new : Counts) (before : NoneFell old mid) (after : NoneFell mi
   job_causes_unsaid job (ReadFault file) h r = h
   job_causes_unsaid job (TooLarge file) h r = h
   job_causes_unsaid job (BadText file why place) h r = h
-  job_causes_unsaid job (WriteFault Sizes) h r = h
-  job_causes_unsaid job (WriteFault Console) h r = h
+  job_causes_unsaid job (BadLibrary e) h r = h
+  job_causes_unsaid job (BadDesign e) h r = h
+  job_causes_unsaid job (WriteFault file) h r = h
   job_causes_unsaid job OutOfMemory h r = h
 
   none_unsaid : (s : Status) → (s ≡ Usage) ⊎ (s ≡ OutOfMemory) → (unsaid s ≡ Usage) ⊎ (unsaid s ≡ OutOfMemory)
@@ -147,7 +169,7 @@ module _ (old mid new : Counts) (before : NoneFell old mid) (after : NoneFell mi
 -- a console fault of the work itself, which no work answers, is one of some success
 console : (o : Option Job) (old new : Files) → LeavesOf o old new (WriteFault Console) → (n : ℕ) × LeavesOf o old new (Written n)
 console None old new h = (0, h)
-console (Some job) old new h = (length h.0.insts, (h.0, h.1, refl))
+console (Some job) old new h = (length h.design.circuit.insts, (h, refl))
 
 none_of : (line said saying : List ℕ) → saying ≡ said ++ [] → GrewByPart line said saying
 none_of line said saying e = (0, e)
@@ -173,7 +195,10 @@ module _ (words : List (List ℕ)) (files left : Files) (old mid new : Counts) (
   says_whole (ReadFault file) h k e = inl e
   says_whole (TooLarge file) h k e = inl e
   says_whole (BadText file why place) h k e = inl e
+  says_whole (BadLibrary x) h k e = inl e
+  says_whole (BadDesign x) h k e = inl e
   says_whole (WriteFault Sizes) h k e = inl e
+  says_whole (WriteFault Report) h k e = inl e
   says_whole (WriteFault Console) h k e = begun [] h (λ n. none_of (line_of (Written n)) said saying e)
   says_whole OutOfMemory h k e = (OutOfMemory, h, k, none_of [] said saying e)
 
@@ -183,7 +208,10 @@ module _ (words : List (List ℕ)) (files left : Files) (old mid new : Counts) (
   says_unsaid (ReadFault file) h k r g = inr (late r, g)
   says_unsaid (TooLarge file) h k r g = inr (late r, g)
   says_unsaid (BadText file why place) h k r g = inr (late r, g)
+  says_unsaid (BadLibrary x) h k r g = inr (late r, g)
+  says_unsaid (BadDesign x) h k r g = inr (late r, g)
   says_unsaid (WriteFault Sizes) h k r g = inr (late r, g)
+  says_unsaid (WriteFault Report) h k r g = inr (late r, g)
   says_unsaid (WriteFault Console) h k r g = begun [] h (λ n. none_of_nothing (line_of (Written n)) said saying g)
   says_unsaid OutOfMemory h k r g = (OutOfMemory, h, k, g)
 

@@ -1,7 +1,9 @@
+pub mod Accepted
+pub mod Design
 pub mod Exit
 pub mod Job
 pub mod Line
 pub mod Refusal
 pub mod Run
-pub mod Sizes
+pub mod Texts
 pub mod Work

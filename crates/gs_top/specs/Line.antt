@@ -1,23 +1,51 @@
 -- The line that is said of each status.
 use Rattle.std.specs.Prelude.{◌≡◌, ℕ, ◌⊎◌, List, [], ◌++◌, codes, decimal}
+use Rattle.gs_lib.specs.declared.error.LibErr.{LibErr}
+use Rattle.gs_lib.specs.declared.error.LibErr.TheVariants as lib
 use Rattle.gs_shelf.specs.Faults.{Rose}
 use Rattle.gs_shelf.specs.Files.{GrewByPart}
 use Rattle.gs_top.specs.declared.status.Input.{Input}
 use Rattle.gs_top.specs.declared.status.Input.TheVariants as input
-use Rattle.gs_top.specs.declared.status.Output.TheVariants.{Sizes, Console}
+use Rattle.gs_top.specs.declared.status.LinkErr.{LinkErr}
+use Rattle.gs_top.specs.declared.status.LinkErr.TheVariants as link
+use Rattle.gs_top.specs.declared.status.Output.{Output}
+use Rattle.gs_top.specs.declared.status.Output.TheVariants.{Sizes, Report, Console}
 use Rattle.gs_top.specs.declared.status.TextWhy.{TextWhy}
-use Rattle.gs_top.specs.declared.status.TextWhy.TheVariants.{NotBuilt, BadPiece, TwoNames, NoEnd}
+use Rattle.gs_top.specs.declared.status.TextWhy.TheVariants.{NotBuilt, OpenString, OpenComment, TooDeep, BadPiece, TwoNames, NoEnd}
 use Rattle.gs_top.specs.declared.status.Status.{Status}
-use Rattle.gs_top.specs.declared.status.Status.TheVariants.{Written, Usage, ReadFault, TooLarge, BadText, WriteFault, OutOfMemory}
+use Rattle.gs_top.specs.declared.status.Status.TheVariants.{Written, Usage, ReadFault, TooLarge, BadText, BadLibrary, BadDesign, WriteFault, OutOfMemory}
 
 abbrev pub input_name : Input → List ℕ
+input_name input.Lib = codes "library"
 input_name input.Verilog = codes "netlist"
 
+-- each reason is its variant's name in lower case
 abbrev pub why_name : TextWhy → List ℕ
 why_name NotBuilt = codes "notbuilt"
+why_name OpenString = codes "openstring"
+why_name OpenComment = codes "opencomment"
+why_name TooDeep = codes "toodeep"
 why_name BadPiece = codes "badpiece"
 why_name TwoNames = codes "twonames"
 why_name NoEnd = codes "noend"
+
+abbrev pub lib_name : LibErr → List ℕ
+lib_name (lib.Missing cell what) = codes "missing"
+lib_name lib.BadUnit = codes "badunit"
+lib_name (lib.TwoCells name) = codes "twocells"
+lib_name (lib.BadNumber cell) = codes "badnumber"
+lib_name lib.TooMany = codes "toomany"
+lib_name lib.Mem = codes "mem"
+
+abbrev pub link_name : LinkErr → List ℕ
+link_name (link.UnknownCell by) = codes "unknowncell"
+link_name (link.TooMany what count) = codes "toomany"
+
+-- no line says that the console failed
+abbrev pub write_line : Output → List ℕ
+write_line Sizes = codes "cannot write sizes\n"
+write_line Report = codes "cannot write report\n"
+write_line Console = []
 
 -- each status but want of memory and a fault of the console has one line
 abbrev pub line_of : Status → List ℕ
@@ -27,8 +55,9 @@ line_of (ReadFault file) = codes "cannot read " ++ input_name file ++ codes "\n"
 line_of (TooLarge file) = codes "too large " ++ input_name file ++ codes "\n"
 line_of (BadText file why place) =
     codes "bad " ++ input_name file ++ codes " " ++ why_name why ++ codes " at " ++ decimal place ++ codes "\n"
-line_of (WriteFault Sizes) = codes "cannot write sizes\n"
-line_of (WriteFault Console) = []
+line_of (BadLibrary e) = codes "bad library " ++ lib_name e ++ codes "\n"
+line_of (BadDesign e) = codes "bad design " ++ link_name e ++ codes "\n"
+line_of (WriteFault file) = write_line file
 line_of OutOfMemory = []
 
 -- a status whose line could not be said for a fault of the console: a success is lost, a refusal stays
@@ -38,6 +67,8 @@ unsaid Usage = Usage
 unsaid (ReadFault file) = ReadFault file
 unsaid (TooLarge file) = TooLarge file
 unsaid (BadText file why place) = BadText file why place
+unsaid (BadLibrary e) = BadLibrary e
+unsaid (BadDesign e) = BadDesign e
 unsaid (WriteFault file) = WriteFault file
 unsaid OutOfMemory = OutOfMemory
 

@@ -1,52 +1,73 @@
 -- What a run leaves in the files, what it says, and why it ended as it did.
-use Rattle.std.specs.Prelude.{◌≡◌, ℕ, ◌^◌, ◌≤◌, ◌⊎◌, List, [], ◌++◌, Option, Some, None, length}
+use Rattle.std.specs.Prelude.{◌≡◌, ◌≢◌, ℕ, ◌⊎◌, List, [], ◌++◌, Option, Some, None, length}
+use Rattle.gs_lib.specs.declared.error.LibErr.TheVariants.{Mem}
 use Rattle.gs_shelf.specs.Faults.{Counts, Rose}
 use Rattle.gs_shelf.specs.Files.{Files, content, AllStay, OthersStay, HoldsPart, GrewByPart}
 use Rattle.gs_shelf.specs.declared.calls.Op.{Op}
 use Rattle.gs_shelf.specs.declared.calls.Op.TheVariants.{Fetch, Store, Say}
-use Rattle.gs_verilog.specs.Circuit.{Circuit}
-use Rattle.gs_verilog.specs.Refusal.{IsVerilog, HasCause}
-use Rattle.gs_top.specs.declared.status.Output.TheVariants.{Sizes, Console}
+use Rattle.gs_top.specs.declared.status.Input.{Input}
+use Rattle.gs_top.specs.declared.status.Input.TheVariants.{Lib, Verilog}
+use Rattle.gs_top.specs.declared.status.Output.{Output}
+use Rattle.gs_top.specs.declared.status.Output.TheVariants.{Sizes, Report, Console}
 use Rattle.gs_top.specs.declared.status.Status.{Status}
-use Rattle.gs_top.specs.declared.status.Status.TheVariants.{Written, Usage, ReadFault, TooLarge, BadText, WriteFault, OutOfMemory}
+use Rattle.gs_top.specs.declared.status.Status.TheVariants.{Written, Usage, ReadFault, TooLarge, BadText, BadLibrary, BadDesign, WriteFault, OutOfMemory}
+use Rattle.gs_top.specs.Accepted.{IsDesignOf, IsTheDesign, IsRefused, NothingBefore}
+use Rattle.gs_top.specs.Design.{Design}
 use Rattle.gs_top.specs.Job.{Job, job_of}
 use Rattle.gs_top.specs.Line.{line_of}
-use Rattle.gs_top.specs.Refusal.{netlist_refusal, verilog_err}
-use Rattle.gs_top.specs.Sizes.{sizes_text}
+use Rattle.gs_top.specs.Texts.{sizes_text, report_text}
 
--- the bytes are the text of one netlist: this one
-pub record IsNetlistOf (bytes : List ℕ) (c : Circuit) : Type 0 where
-  pub few : length bytes ≤ 2 ^ 28
-  pub stands : IsVerilog bytes c
-  pub one : (d : Circuit) → IsVerilog bytes d → d ≡ c
-  pub accepted : netlist_refusal bytes ≡ None
+-- no file but the two that the job writes changed
+abbrev pub InputsStay : Job → Files → Files → Type 0
+InputsStay job old new = (other : List ℕ) → other ≢ job.sizes → other ≢ job.report → new other ≡ old other
 
--- the sizes file holds the text of the netlist, and no other file changed
-pub record Stored (job : Job) (old new : Files) (c : Circuit) : Type 0 where
-  pub netlist : IsNetlistOf (content old job.verilog) c
-  pub text : new job.sizes ≡ Some (sizes_text c.insts)
+-- the sizes file holds what it held, or a prefix of its text, and no other file changed
+pub record SizesBegun (job : Job) (old new : Files) (sizes : List ℕ) : Type 0 where
+  pub part : HoldsPart job.sizes sizes old new
   pub others : OthersStay job.sizes old new
 
--- the sizes file holds what it held, or a prefix of the text of the netlist, and no other file changed
-pub record StoredPart (job : Job) (old new : Files) (c : Circuit) : Type 0 where
-  pub netlist : IsNetlistOf (content old job.verilog) c
-  pub part : HoldsPart job.sizes (sizes_text c.insts) old new
-  pub others : OthersStay job.sizes old new
+-- the sizes file holds its text, the report what it held or a prefix of its text, and no other file changed
+pub record ReportBegun (job : Job) (old new : Files) (sizes report : List ℕ) : Type 0 where
+  pub sizes_hold : new job.sizes ≡ Some sizes
+  pub part : HoldsPart job.report report old new
+  pub others : InputsStay job old new
+
+-- both files hold their texts, and no other file changed
+pub record BothHold (job : Job) (old new : Files) (sizes report : List ℕ) : Type 0 where
+  pub sizes_hold : new job.sizes ≡ Some sizes
+  pub report_holds : new job.report ≡ Some report
+  pub others : InputsStay job old new
+
+-- what the files hold where the storing of these texts ended so: those stored before hold their whole texts, and later ones
+-- what they held
+abbrev pub StoredTo : Output → Job → Files → Files → (sizes report : List ℕ) → Type 0
+StoredTo Sizes job old new sizes report = SizesBegun job old new sizes
+StoredTo Report job old new sizes report = ReportBegun job old new sizes report
+StoredTo Console job old new sizes report = BothHold job old new sizes report
+
+-- the files are those of the design that the job's bytes make, stored so far
+pub record DesignStored (to : Output) (job : Job) (old new : Files) : Type 0 where
+  pub design : Design
+  pub is : IsTheDesign (content old job.lib) (content old job.verilog) design
+  pub stored : StoredTo to job old new (sizes_text design.circuit.insts) (report_text design)
+
+-- a refusal that the bytes decide, and no file changed
+pub record JobRefused (job : Job) (old new : Files) (s : Status) : Type 0 where
+  pub refused : IsRefused (content old job.lib) (content old job.verilog) s
+  pub stay : AllStay old new
 
 -- what the files hold after a job, by cases on the status
 abbrev pub JobLeaves : Job → Files → Files → Status → Type 0
-JobLeaves job old new (Written instances) = (c : Circuit) × Stored job old new c × (instances ≡ length c.insts)
+JobLeaves job old new (Written instances) =
+    (done : DesignStored Console job old new) × (instances ≡ length done.design.circuit.insts)
 JobLeaves job old new Usage = ⊥
-JobLeaves job old new (ReadFault file) = AllStay old new
-JobLeaves job old new (TooLarge file) = (netlist_refusal (content old job.verilog) ≡ Some (TooLarge file)) × AllStay old new
-JobLeaves job old new (BadText file why place) =
-    (netlist_refusal (content old job.verilog) ≡ Some (BadText file why place))
-    × HasCause (content old job.verilog) (verilog_err why place)
-    × AllStay old new
-JobLeaves job old new (WriteFault Sizes) = (c : Circuit) × StoredPart job old new c
-JobLeaves job old new (WriteFault Console) = (c : Circuit) × Stored job old new c
-JobLeaves job old new OutOfMemory =
-    AllStay old new ⊎ (((c : Circuit) × StoredPart job old new c) ⊎ ((c : Circuit) × Stored job old new c))
+JobLeaves job old new (ReadFault file) = NothingBefore file (content old job.lib) × AllStay old new
+JobLeaves job old new (TooLarge file) = JobRefused job old new (TooLarge file)
+JobLeaves job old new (BadText file why place) = JobRefused job old new (BadText file why place)
+JobLeaves job old new (BadLibrary e) = JobRefused job old new (BadLibrary e)
+JobLeaves job old new (BadDesign e) = JobRefused job old new (BadDesign e)
+JobLeaves job old new (WriteFault file) = DesignStored file job old new
+JobLeaves job old new OutOfMemory = AllStay old new ⊎ ((to : Output) × DesignStored to job old new)
 
 abbrev pub LeavesOf : Option Job → Files → Files → Status → Type 0
 LeavesOf None old new status = AllStay old new
@@ -56,15 +77,27 @@ LeavesOf (Some job) old new status = JobLeaves job old new status
 abbrev pub Leaves : List (List ℕ) → Files → Files → Status → Type 0
 Leaves words old new status = LeavesOf (job_of words) old new status
 
+-- the name of a file that a job reads, and of what it writes; the console has none
+abbrev pub input_of : Job → Input → List ℕ
+input_of job Lib = job.lib
+input_of job Verilog = job.verilog
+
+-- the count of what was written rose
+abbrev pub WriteRose : Job → Output → Counts → Counts → Type 0
+WriteRose job Sizes old new = Rose (old Store job.sizes) (new Store job.sizes)
+WriteRose job Report old new = Rose (old Store job.report) (new Store job.report)
+WriteRose job Console old new = Rose (old Say []) (new Say [])
+
 -- what stands behind the status of a job on every shelf
 abbrev pub JobCauses : Job → Counts → Counts → Status → Type 0
 JobCauses job old new (Written instances) = Unit {0}
 JobCauses job old new Usage = ⊥
-JobCauses job old new (ReadFault file) = Rose (old Fetch job.verilog) (new Fetch job.verilog)
+JobCauses job old new (ReadFault file) = Rose (old Fetch (input_of job file)) (new Fetch (input_of job file))
 JobCauses job old new (TooLarge file) = Unit {0}
 JobCauses job old new (BadText file why place) = Unit {0}
-JobCauses job old new (WriteFault Sizes) = Rose (old Store job.sizes) (new Store job.sizes)
-JobCauses job old new (WriteFault Console) = Rose (old Say []) (new Say [])
+JobCauses job old new (BadLibrary e) = e ≢ Mem
+JobCauses job old new (BadDesign e) = Unit {0}
+JobCauses job old new (WriteFault file) = WriteRose job file old new
 JobCauses job old new OutOfMemory = Unit {0}
 
 abbrev pub CausesOf : Option Job → Counts → Counts → Status → Type 0
@@ -75,13 +108,12 @@ CausesOf (Some job) old new status = JobCauses job old new status
 abbrev pub Causes : List (List ℕ) → Counts → Counts → Status → Type 0
 Causes words old new status = CausesOf (job_of words) old new status
 
--- the words make a job, and its file is a netlist's text within the limit
+-- the words make a job, and its files make a design
 pub record IsAccepted (words : List (List ℕ)) (files : Files) : Type 0 where
   pub job : Job
   pub form : job_of words ≡ Some job
-  pub few : length (content files job.verilog) ≤ 2 ^ 28
-  pub circuit : Circuit
-  pub stands : IsVerilog (content files job.verilog) circuit
+  pub design : Design
+  pub is : IsDesignOf (content files job.lib) (content files job.verilog) design
 
 -- the answer where the words and the bytes are refused so: that refusal, a fault of reading, or want of memory
 abbrev pub AnswersRefusal : Status → Status → Type 0
@@ -103,19 +135,16 @@ IsDone _ = ⊥
 abbrev pub SaysLine : List ℕ → (before now : ℕ) → (old new : List ℕ) → Type 0
 SaysLine line before now old new = (new ≡ old ++ line) ⊎ (Rose before now × GrewByPart line old new)
 
+-- what was said after a fault of writing: the line that tells it; or a part of the line of a success
+abbrev pub SaysWrite : List (List ℕ) → Files → Files → Counts → Counts → (said saying : List ℕ) → Output → Type 0
+SaysWrite words files left old new said saying Console =
+    (instances : ℕ) × Leaves words files left (Written instances) × GrewByPart (line_of (Written instances)) said saying
+SaysWrite words files left old new said saying file = SaysLine (line_of (WriteFault file)) (old Say []) (new Say []) said saying
+
 -- what was said after a run with these words
 abbrev pub Says : List (List ℕ) → Files → Files → Counts → Counts → (said saying : List ℕ) → Status → Type 0
 Says words files left old new said saying (Written instances) = saying ≡ said ++ line_of (Written instances)
-Says words files left old new said saying Usage = SaysLine (line_of Usage) (old Say []) (new Say []) said saying
-Says words files left old new said saying (ReadFault file) =
-    SaysLine (line_of (ReadFault file)) (old Say []) (new Say []) said saying
-Says words files left old new said saying (TooLarge file) =
-    SaysLine (line_of (TooLarge file)) (old Say []) (new Say []) said saying
-Says words files left old new said saying (BadText file why place) =
-    SaysLine (line_of (BadText file why place)) (old Say []) (new Say []) said saying
-Says words files left old new said saying (WriteFault Sizes) =
-    SaysLine (line_of (WriteFault Sizes)) (old Say []) (new Say []) said saying
-Says words files left old new said saying (WriteFault Console) =
-    (instances : ℕ) × Leaves words files left (Written instances) × GrewByPart (line_of (Written instances)) said saying
+Says words files left old new said saying (WriteFault file) = SaysWrite words files left old new said saying file
 Says words files left old new said saying OutOfMemory =
     (status : Status) × Leaves words files left status × Causes words old new status × GrewByPart (line_of status) said saying
+Says words files left old new said saying status = SaysLine (line_of status) (old Say []) (new Say []) said saying

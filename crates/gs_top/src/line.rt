@@ -1,8 +1,9 @@
 //! The line that is said of a status.
 ghost use Rattle.std.specs.Prelude.{◌≡◌, ◌++◌, IfOk, OnOk, codes, decimal};
-ghost use Rattle.gs_top.specs.Line.{line_of, input_name, why_name};
+ghost use Rattle.gs_top.specs.Line.{input_name, lib_name, line_of, link_name, why_name, write_line};
 
-use crate::status::{Input, Output, Status, TextWhy};
+use crate::status::{Input, LinkErr, Output, Status, TextWhy};
+use gs_lib::LibErr;
 use itoa::Buffer;
 use std::alloc::{AllocError, Global};
 
@@ -10,6 +11,7 @@ fn input_name(file: Input) -> &'static str
     ensures { result.now ≡ input_name file }
 {
     match file {
+        Input::Lib => "library",
         Input::Verilog => "netlist",
     }
 }
@@ -19,9 +21,45 @@ fn why_name(why: TextWhy) -> &'static str
 {
     match why {
         TextWhy::NotBuilt => "notbuilt",
+        TextWhy::OpenString => "openstring",
+        TextWhy::OpenComment => "opencomment",
+        TextWhy::TooDeep => "toodeep",
         TextWhy::BadPiece => "badpiece",
         TextWhy::TwoNames => "twonames",
         TextWhy::NoEnd => "noend",
+    }
+}
+
+fn lib_name(error: &LibErr) -> &'static str
+    ensures { result.now ≡ lib_name error.now }
+{
+    match error {
+        LibErr::Missing { .. } => "missing",
+        LibErr::BadUnit => "badunit",
+        LibErr::TwoCells { .. } => "twocells",
+        LibErr::BadNumber { .. } => "badnumber",
+        LibErr::TooMany => "toomany",
+        LibErr::Mem => "mem",
+    }
+}
+
+fn link_name(error: &LinkErr) -> &'static str
+    ensures { result.now ≡ link_name error.now }
+{
+    match error {
+        LinkErr::UnknownCell { .. } => "unknowncell",
+        LinkErr::TooMany { .. } => "toomany",
+    }
+}
+
+/// The line of a fault of writing, or nothing for the console's.
+fn write_line(file: Output) -> &'static str
+    ensures { result.now ≡ write_line file }
+{
+    match file {
+        Output::Sizes => "cannot write sizes\n",
+        Output::Report => "cannot write report\n",
+        Output::Console => "",
     }
 }
 
@@ -36,7 +74,7 @@ fn written_line(alloc: Global, instances: u32) -> Result<Vec<u8>, AllocError>
     Ok(line)
 }
 
-/// What happened to which file.
+/// What happened, and to which file or why.
 fn file_line(alloc: Global, what: &str, name: &str) -> Result<Vec<u8>, AllocError>
     ensures { IfOk result (λ v. v.items ≡ what.now ++ name.now ++ codes "\n") }
 {
@@ -62,26 +100,23 @@ fn bad_line(alloc: Global, name: &str, why: &str, place: u32) -> Result<Vec<u8>,
 }
 
 /// The status's line with its newline, or nothing for a status that has none.
-pub(crate) fn line_of(alloc: Global, status: Status) -> Result<Vec<u8>, AllocError>
-    ensures { IfOk result (λ v. v.items ≡ line_of status) }
+pub(crate) fn line_of(alloc: Global, status: &Status) -> Result<Vec<u8>, AllocError>
+    ensures { IfOk result (λ v. v.items ≡ line_of status.now) }
 {
     match status {
-        Status::Written { instances } => written_line(alloc, instances),
+        Status::Written { instances } => written_line(alloc, *instances),
         Status::Usage => Vec::from_slice(
             alloc,
             b"usage: gate-sizer size, check, audit or gen, with options\n",
         ),
-        Status::ReadFault { file } => file_line(alloc, "cannot read ", input_name(file)),
-        Status::TooLarge { file } => file_line(alloc, "too large ", input_name(file)),
+        Status::ReadFault { file } => file_line(alloc, "cannot read ", input_name(*file)),
+        Status::TooLarge { file } => file_line(alloc, "too large ", input_name(*file)),
         Status::BadText { file, why, place } => {
-            bad_line(alloc, input_name(file), why_name(why), place)
+            bad_line(alloc, input_name(*file), why_name(*why), *place)
         }
-        Status::WriteFault {
-            file: Output::Sizes,
-        } => Vec::from_slice(alloc, b"cannot write sizes\n"),
-        Status::WriteFault {
-            file: Output::Console,
-        } => Ok(Vec::new(alloc)),
+        Status::BadLibrary(error) => file_line(alloc, "bad library ", lib_name(error)),
+        Status::BadDesign(error) => file_line(alloc, "bad design ", link_name(error)),
+        Status::WriteFault { file } => Vec::from_slice(alloc, write_line(*file).as_bytes()),
         Status::OutOfMemory => Ok(Vec::new(alloc)),
     }
 }

@@ -28,6 +28,8 @@ fn unsaid(status: Status) -> Status
         | Status::ReadFault { .. }
         | Status::TooLarge { .. }
         | Status::BadText { .. }
+        | Status::BadLibrary(_)
+        | Status::BadDesign(_)
         | Status::WriteFault { .. }
         | Status::OutOfMemory => status,
     }
@@ -40,7 +42,7 @@ fn say<H: Shelf>(alloc: Global, shelf: &mut H, status: Status) -> Status
     ensures stay { AllStay (H.files shelf.old) (H.files shelf.new) }
     ensures later { NoneFell (H.faults shelf.old) (H.faults shelf.new) }
 {
-    let Ok(line) = line_of(alloc, status) else {
+    let Ok(line) = line_of(alloc, &status) else {
         return Status::OutOfMemory;
     };
     if line.is_empty() {
@@ -62,7 +64,7 @@ fn act<H: Shelf>(alloc: Global, words: &Words, shelf: &mut H) -> Status
     ensures later { NoneFell (H.faults shelf.old) (H.faults shelf.new) }
 {
     match read_job(words.as_slice()) {
-        Some(job) => work(alloc, shelf, job.verilog, job.sizes),
+        Some(job) => work(alloc, shelf, &job),
         None => Status::Usage,
     }
 }
@@ -75,7 +77,8 @@ pub fn run<H: Shelf>(alloc: Global, words: &Words, shelf: &mut H) -> Status
     ensures said { H.tells → Says words.now (H.files shelf.old) (H.files shelf.new) (H.faults shelf.old) (H.faults shelf.new) (H.said shelf.old) (H.said shelf.new) result }
     // What stands behind each status, on every shelf.
     ensures cause { Causes words.now (H.faults shelf.old) (H.faults shelf.new) result }
-    // Words of the form and a netlist in its grammar and within the limit succeed, but for a fault or want of memory.
+    // Words of the form, a library and a netlist in their grammars and limits whose cells the library has, and no fault: success, or
+    // want of memory.
     ensures complete { H.tells → IsAccepted words.now (H.files shelf.old) → NoneRose (H.faults shelf.old) (H.faults shelf.new) → IsDone result }
     // The first refusal that the words and the bytes decide is the answer, but for a fault of reading or want of memory.
     ensures refused { H.tells → (refusal : Status) → first_refusal words.now (H.files shelf.old) ≡ Some refusal → AnswersRefusal refusal result }

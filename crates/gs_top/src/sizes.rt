@@ -1,6 +1,6 @@
 //! The text of the sizes file.
 ghost use Rattle.std.specs.Prelude.{◌≡◌, ◌++◌, OnOk, IfOk};
-ghost use Rattle.gs_top.specs.Sizes.{sizes_line, sizes_text};
+ghost use Rattle.gs_top.specs.Texts.{sizes_line, sizes_text};
 
 use gs_verilog::RawInst;
 use std::alloc::{AllocError, Global};

@@ -2,9 +2,14 @@
 ghost use Rattle.std.specs.Prelude.{◌≡◌};
 ghost use Rattle.gs_top.specs.Exit.{exit_of};
 
+use gs_lib::LibErr;
+use gs_text::Name;
+
 /// A file that a command reads.
 #[derive(Clone, Copy, Debug, PartialEq, Eq)]
 pub enum Input {
+    /// The Liberty library.
+    Lib,
     /// The netlist.
     Verilog,
 }
@@ -14,6 +19,8 @@ pub enum Input {
 pub enum Output {
     /// The file of sizes.
     Sizes,
+    /// The report.
+    Report,
     /// The status line.
     Console,
 }
@@ -21,8 +28,14 @@ pub enum Output {
 /// Why a text is refused.
 #[derive(Clone, Copy, Debug, PartialEq, Eq)]
 pub enum TextWhy {
-    /// A comment or an escaped name, which aren't built yet.
+    /// A comment or an escaped name in a netlist, which aren't built yet.
     NotBuilt,
+    /// A string without an end.
+    OpenString,
+    /// A comment without an end.
+    OpenComment,
+    /// A group of a library that is more than 64 deep.
+    TooDeep,
     /// A piece with which no text of the form begins.
     BadPiece,
     /// A piece that only breaks a rule on names.
@@ -31,10 +44,27 @@ pub enum TextWhy {
     NoEnd,
 }
 
-/// How a command ended.
+/// What there are too many of.
 #[derive(Clone, Copy, Debug, PartialEq, Eq)]
+pub enum Counted {
+    Instances,
+    Nets,
+    Pins,
+}
+
+/// Why a netlist and a library make no design.
+#[derive(Debug, PartialEq, Eq, Drop)]
+pub enum LinkErr {
+    /// The instance `by` names a cell that the library lacks. It is the first such instance.
+    UnknownCell { by: Name },
+    /// There are so many, which is too many.
+    TooMany { what: Counted, count: u64 },
+}
+
+/// How a command ended.
+#[derive(Debug, PartialEq, Eq, Drop)]
 pub enum Status {
-    /// The sizes of so many instances were written.
+    /// The sizes of so many instances were written, and the report.
     Written {
         instances: u32,
     },
@@ -48,12 +78,17 @@ pub enum Status {
     TooLarge {
         file: Input,
     },
-    /// The file's text is refused. `place` counts bytes from 0 for `NotBuilt`, pieces from 0 for the others.
+    /// The file's text is refused. `place` counts bytes from 0 for `NotBuilt`, `OpenString` and `OpenComment`, pieces from 0 for
+    /// the others.
     BadText {
         file: Input,
         why: TextWhy,
         place: u32,
     },
+    /// The library's text has its form, and is refused for what it says; never for want of memory.
+    BadLibrary(LibErr),
+    /// The netlist and the library make no design.
+    BadDesign(LinkErr),
     /// The file could not be written, or the line of a success could not be said.
     WriteFault {
         file: Output,
@@ -69,7 +104,10 @@ pub fn exit_of(status: &Status) -> u8
     match status {
         Status::Written { .. } => 0,
         Status::Usage => 2,
-        Status::BadText { .. } | Status::TooLarge { .. } => 3,
+        Status::BadText { .. }
+        | Status::TooLarge { .. }
+        | Status::BadLibrary(_)
+        | Status::BadDesign(_) => 3,
         Status::ReadFault { .. } => 4,
         Status::WriteFault { .. } => 5,
         Status::OutOfMemory => 6,

@@ -1,17 +1,27 @@
 ghost use Rattle.std.specs.Prelude.{◌≤◌};
 
 use crate::program::run;
-use crate::status::{Input, Output, Status, TextWhy, exit_of};
-use crate::words::{Mem, Words};
+use crate::status::{Input, LinkErr, Output, Status, TextWhy, exit_of};
+use crate::words::Words;
+use gs_lib::LibErr;
+use gs_quantity::Mem;
 use gs_shelf::{Bytes, Failures, FileList, MemShelf, NeverFails, Numbers};
 use std::alloc::{AllocError, Global};
 use std::test::Fail;
+
+/// Inverters of two sizes.
+const CELLS: &str =
+    "library (l) { leakage_power_unit : \"1uW\" ; cell (I1) { cell_leakage_power : 1 ; } cell (I2) { cell_leakage_power : 3 ; } }";
 
 /// A chain of two inverters.
 const CHAIN: &str =
     "module c (x, z); input x; output z; I2 g1 (.a(x), .o(n1)); I2 g2 (.a(n1), .o(z)); endmodule";
 
 const CHAIN_SIZES: &str = "g1 I2\ng2 I2\n";
+
+const CHAIN_REPORT: &str = "gate-sizing-report 1\nleakage 6.000000 1uW\n";
+
+const EMPTY: &str = "module e (a); input a; endmodule";
 
 fn words_of(alloc: Global, texts: &[&str]) -> Result<Words, Mem> {
     let mut words = Words::new(alloc);
@@ -22,14 +32,29 @@ fn words_of(alloc: Global, texts: &[&str]) -> Result<Words, Mem> {
 }
 
 fn size_words(alloc: Global) -> Result<Words, Mem> {
-    words_of(alloc, &["size", "--verilog", "n.v", "--sizes", "n.sizes"])
+    words_of(
+        alloc,
+        &[
+            "size",
+            "--lib",
+            "n.lib",
+            "--verilog",
+            "n.v",
+            "--sizes",
+            "n.sizes",
+            "--report",
+            "n.rpt",
+        ],
+    )
 }
 
-/// The netlist as `n.v`, and a file of sizes from before.
-fn files_with(alloc: Global, netlist: &str) -> Result<FileList, AllocError> {
+/// The library as `n.lib`, the netlist as `n.v`, and two files from before.
+fn files_with(alloc: Global, library: &str, netlist: &str) -> Result<FileList, AllocError> {
     let mut files = FileList::new(alloc);
+    files.put(alloc, b"n.lib", library.as_bytes())?;
     files.put(alloc, b"n.v", netlist.as_bytes())?;
     files.put(alloc, b"n.sizes", b"before")?;
+    files.put(alloc, b"n.rpt", b"earlier")?;
     Ok(files)
 }
 
@@ -51,168 +76,307 @@ fn shelf_with(
     })
 }
 
-/// A run, and what stands after it.
+/// Files that a run reads, and what stands after it.
 #[derive(Clone, Copy)]
 struct Row {
+    library: &'static str,
     netlist: &'static str,
-    status: Status,
     exit: u8,
     said: &'static str,
     sizes: &'static str,
+    report: &'static str,
 }
 
-fn bad(why: TextWhy, place: u32) -> Status {
-    let file = Input::Verilog;
-    Status::BadText { file, why, place }
+fn done(library: &'static str, netlist: &'static str, said: &'static str) -> Row {
+    Row {
+        library,
+        netlist,
+        exit: 0,
+        said,
+        sizes: "",
+        report: "",
+    }
 }
 
-fn rows() -> [Row; 6] {
+fn refused(library: &'static str, netlist: &'static str, said: &'static str) -> Row {
+    Row {
+        library,
+        netlist,
+        exit: 3,
+        said,
+        sizes: "before",
+        report: "earlier",
+    }
+}
+
+fn successes() -> [Row; 3] {
     [
         Row {
-            netlist: CHAIN,
-            status: Status::Written { instances: 2 },
-            exit: 0,
-            said: "written 2\n",
             sizes: CHAIN_SIZES,
+            report: CHAIN_REPORT,
+            ..done(CELLS, CHAIN, "written 2\n")
         },
         Row {
-            netlist: "module e (a); input a; endmodule",
-            status: Status::Written { instances: 0 },
-            exit: 0,
-            said: "written 0\n",
-            sizes: "",
+            report: "gate-sizing-report 1\nleakage 0.000000 1uW\n",
+            ..done(CELLS, EMPTY, "written 0\n")
         },
         Row {
-            netlist: "module m (a); input 1; endmodule",
-            status: bad(TextWhy::BadPiece, 7),
-            exit: 3,
-            said: "bad netlist badpiece at 7\n",
-            sizes: "before",
-        },
-        Row {
-            netlist: "module m (a); input a",
-            status: bad(TextWhy::NoEnd, 8),
-            exit: 3,
-            said: "bad netlist noend at 8\n",
-            sizes: "before",
-        },
-        Row {
-            netlist: "module m; input a, a; endmodule",
-            status: bad(TextWhy::TwoNames, 6),
-            exit: 3,
-            said: "bad netlist twonames at 6\n",
-            sizes: "before",
-        },
-        Row {
-            netlist: "module m; // x",
-            status: bad(TextWhy::NotBuilt, 10),
-            exit: 3,
-            said: "bad netlist notbuilt at 10\n",
-            sizes: "before",
+            sizes: CHAIN_SIZES,
+            report: "gate-sizing-report 1\nleakage 0.000002\n",
+            ..done(
+                "library (r) { cell (I2) { cell_leakage_power : 0.0000005 ; } }",
+                CHAIN,
+                "written 2\n",
+            )
         },
     ]
 }
 
+fn refusals_of_netlists() -> [Row; 4] {
+    [
+        refused(
+            CELLS,
+            "module m (a); input 1; endmodule",
+            "bad netlist badpiece at 7\n",
+        ),
+        refused(CELLS, "module m (a); input a", "bad netlist noend at 8\n"),
+        refused(
+            CELLS,
+            "module m; input a, a; endmodule",
+            "bad netlist twonames at 6\n",
+        ),
+        refused(CELLS, "module m; // x", "bad netlist notbuilt at 10\n"),
+    ]
+}
+
+fn refusals_of_library_texts() -> [Row; 3] {
+    [
+        refused("library (l) { a : ; }", "", "bad library badpiece at 7\n"),
+        refused("library (l) { \"", "", "bad library openstring at 14\n"),
+        refused("library /* (l)", "", "bad library opencomment at 8\n"),
+    ]
+}
+
+fn refusals_of_designs() -> [Row; 6] {
+    [
+        refused("cells (l) { }", "", "bad library missing\n"),
+        refused(
+            "library (l) { leakage_power_unit : \"1 uW\" ; }",
+            "",
+            "bad library badunit\n",
+        ),
+        refused(
+            "library (l) { cell (a) { cell_leakage_power : 1 ; } cell (a) { } }",
+            "",
+            "bad library twocells\n",
+        ),
+        refused(
+            "library (l) { cell (a) { cell_leakage_power (1) ; } }",
+            "",
+            "bad library missing\n",
+        ),
+        refused(
+            "library (l) { cell (a) { cell_leakage_power : -1 ; } }",
+            "",
+            "bad library badnumber\n",
+        ),
+        refused(
+            "library (l) { cell (I1) { cell_leakage_power : 1 ; } }",
+            CHAIN,
+            "bad design unknowncell\n",
+        ),
+    ]
+}
+
+/// Whether the run of a row ends as the row says, over a shelf without faults.
+fn ends_so(alloc: Global, row: Row) -> Result<bool, Fail> {
+    let mut shelf = NeverFails {
+        files: files_with(alloc, row.library, row.netlist)?,
+        said: Bytes::new(alloc),
+    };
+    let status = run(alloc, &size_words(alloc)?, &mut shelf);
+    let sizes = shelf.files.get(b"n.sizes") == Some(row.sizes.as_bytes());
+    let report = shelf.files.get(b"n.rpt") == Some(row.report.as_bytes());
+    let said = shelf.said.is(row.said.as_bytes());
+    Ok(exit_of(&status) == row.exit && said && sizes && report)
+}
+
 #[test]
-fn each_row_without_faults(rt: HostRuntime) -> Result<(), Fail> {
-    let alloc = rt.alloc();
-    let words = size_words(alloc)?;
-    for (k, row) in rows().into_iter().enumerate() {
-        let mut shelf = NeverFails {
-            files: files_with(alloc, row.netlist)?,
-            said: Bytes::new(alloc),
-        };
-        let status = run(alloc, &words, &mut shelf);
-        assert_eq!(rt; status, row.status, "row {k}");
-        assert_eq!(rt; exit_of(&status), row.exit, "row {k}");
-        assert!(rt; shelf.said.is(row.said.as_bytes()), "row {k}");
-        let sizes = shelf.files.get(b"n.sizes");
-        assert!(rt; sizes == Some(row.sizes.as_bytes()), "row {k}");
+fn each_success(rt: HostRuntime) -> Result<(), Fail> {
+    for row in successes() {
+        assert!(rt; ends_so(rt.alloc(), row)?, "{}", row.report);
     }
     Ok(())
 }
 
 #[test]
-fn each_row_byte_by_byte(rt: HostRuntime) -> Result<(), Fail> {
-    let alloc = rt.alloc();
-    let words = size_words(alloc)?;
-    for (k, row) in rows().into_iter().enumerate() {
-        let mut shelf = shelf_with(alloc, files_with(alloc, row.netlist)?, &[], 1)?;
-        assert_eq!(rt;
-            run(alloc, &words, &mut shelf),
-            row.status,
-            "{}",
-            row.netlist
-        );
-        assert!(rt; shelf.said.is(row.said.as_bytes()), "row {k}");
+fn each_refusal(rt: HostRuntime) -> Result<(), Fail> {
+    for row in refusals_of_netlists() {
+        assert!(rt; ends_so(rt.alloc(), row)?, "{}", row.said);
+    }
+    for row in refusals_of_library_texts() {
+        assert!(rt; ends_so(rt.alloc(), row)?, "{}", row.said);
+    }
+    for row in refusals_of_designs() {
+        assert!(rt; ends_so(rt.alloc(), row)?, "{}", row.said);
     }
     Ok(())
+}
+
+/// The status of a run over a shelf of one-byte fetches.
+fn status_of(alloc: Global, library: &str, netlist: &str) -> Result<Status, Fail> {
+    let mut shelf = shelf_with(alloc, files_with(alloc, library, netlist)?, &[], 1)?;
+    Ok(run(alloc, &size_words(alloc)?, &mut shelf))
+}
+
+#[test]
+fn statuses_byte_by_byte(rt: HostRuntime) -> Result<(), Fail> {
+    let alloc = rt.alloc();
+    let written = status_of(alloc, CELLS, CHAIN)?;
+    assert!(rt; matches!(written, Status::Written { instances: 2 }));
+    let text = status_of(alloc, "library (l) {", CHAIN)?;
+    assert!(rt;
+        matches!(
+            text,
+            Status::BadText {
+                file: Input::Lib,
+                why: TextWhy::BadPiece,
+                place: 5
+            }
+        )
+    );
+    let library = status_of(alloc, "l (l) {}", CHAIN)?;
+    assert!(rt; matches!(library, Status::BadLibrary(LibErr::Missing { .. })));
+    let design = status_of(alloc, "library (l) {}", CHAIN)?;
+    let named = match design {
+        Status::BadDesign(LinkErr::UnknownCell { by }) => by.is(b"g1"),
+        _ => false,
+    };
+    assert!(rt; named);
+    Ok(())
+}
+
+/// What stands after a run whose call number `k` fails.
+fn fails_so(
+    alloc: Global,
+    k: u64,
+    said: &str,
+    sizes: &str,
+    report: &str,
+) -> Result<Option<Status>, Fail> {
+    let mut shelf = shelf_with(alloc, files_with(alloc, CELLS, CHAIN)?, &[k], 1000)?;
+    let status = run(alloc, &size_words(alloc)?, &mut shelf);
+    let stands = shelf.said.is(said.as_bytes())
+        && shelf.files.get(b"n.sizes") == Some(sizes.as_bytes())
+        && shelf.files.get(b"n.rpt") == Some(report.as_bytes());
+    Ok(if stands { Some(status) } else { None })
 }
 
 #[test]
 fn each_call_fails_in_turn(rt: HostRuntime) -> Result<(), Fail> {
     let alloc = rt.alloc();
-    let words = size_words(alloc)?;
-    let cannot_read = Status::ReadFault {
-        file: Input::Verilog,
-    };
-    let no_sizes = Status::WriteFault {
-        file: Output::Sizes,
-    };
-    let no_console = Status::WriteFault {
-        file: Output::Console,
-    };
-    let written = Status::Written { instances: 2 };
-    for (k, status, exit, said, sizes) in [
-        (0, cannot_read, 4, "cannot read netlist\n", "before"),
-        (1, cannot_read, 4, "cannot read netlist\n", "before"),
-        (2, no_sizes, 5, "cannot write sizes\n", "before"),
-        (3, no_console, 5, "", CHAIN_SIZES),
-        (4, written, 0, "written 2\n", CHAIN_SIZES),
-    ] {
-        let mut shelf = shelf_with(alloc, files_with(alloc, CHAIN)?, &[k], 1000)?;
-        let ended = run(alloc, &words, &mut shelf);
-        assert_eq!(rt; ended, status, "failing {k}");
-        assert_eq!(rt; exit_of(&ended), exit, "failing {k}");
-        assert!(rt; shelf.said.is(said.as_bytes()), "said, failing {k}");
+    for k in [0, 1] {
+        let ended = fails_so(alloc, k, "cannot read library\n", "before", "earlier")?;
         assert!(rt;
-            shelf.files.get(b"n.sizes") == Some(sizes.as_bytes()),
-            "sizes, failing {k}"
+            matches!(ended, Some(Status::ReadFault { file: Input::Lib })),
+            "failing {k}"
         );
     }
+    for k in [2, 3] {
+        let ended = fails_so(alloc, k, "cannot read netlist\n", "before", "earlier")?;
+        assert!(rt;
+            matches!(
+                ended,
+                Some(Status::ReadFault {
+                    file: Input::Verilog
+                })
+            ),
+            "failing {k}"
+        );
+    }
+    let sizes = fails_so(alloc, 4, "cannot write sizes\n", "before", "earlier")?;
+    assert!(rt;
+        matches!(
+            sizes,
+            Some(Status::WriteFault {
+                file: Output::Sizes
+            })
+        )
+    );
+    let report = fails_so(alloc, 5, "cannot write report\n", CHAIN_SIZES, "earlier")?;
+    assert!(rt;
+        matches!(
+            report,
+            Some(Status::WriteFault {
+                file: Output::Report
+            })
+        )
+    );
+    let console = fails_so(alloc, 6, "", CHAIN_SIZES, CHAIN_REPORT)?;
+    assert!(rt;
+        matches!(
+            console,
+            Some(Status::WriteFault {
+                file: Output::Console
+            })
+        )
+    );
+    let whole = fails_so(alloc, 7, "written 2\n", CHAIN_SIZES, CHAIN_REPORT)?;
+    assert!(rt; matches!(whole, Some(Status::Written { instances: 2 })));
     Ok(())
 }
 
 #[test]
-fn a_missing_netlist_and_other_words(rt: HostRuntime) -> Result<(), Fail> {
+fn missing_files_and_other_words(rt: HostRuntime) -> Result<(), Fail> {
     let alloc = rt.alloc();
     let mut shelf = shelf_with(alloc, FileList::new(alloc), &[], 9)?;
     let status = run(alloc, &size_words(alloc)?, &mut shelf);
-    assert_eq!(rt;
-        status,
-        Status::ReadFault {
-            file: Input::Verilog
-        }
-    );
     assert_eq!(rt; exit_of(&status), 4);
-    assert!(rt; shelf.said.is(b"cannot read netlist\n"));
+    assert!(rt; shelf.said.is(b"cannot read library\n"));
     assert!(rt; shelf.files.get(b"n.sizes").is_none());
     let others: [&[&str]; 5] = [
         &[],
-        &["resize", "--verilog", "a", "--sizes", "b"],
-        &["size", "--sizes", "a", "--verilog", "b"],
-        &["size", "--verilog", "", "--sizes", "b"],
-        &["size", "--verilog", "a", "--sizes", "a"],
+        &["size", "--verilog", "a", "--sizes", "b"],
+        &[
+            "resize",
+            "--lib",
+            "a",
+            "--verilog",
+            "b",
+            "--sizes",
+            "c",
+            "--report",
+            "d",
+        ],
+        &[
+            "size",
+            "--lib",
+            "a",
+            "--verilog",
+            "",
+            "--sizes",
+            "c",
+            "--report",
+            "d",
+        ],
+        &[
+            "size",
+            "--lib",
+            "a",
+            "--verilog",
+            "b",
+            "--sizes",
+            "c",
+            "--report",
+            "a",
+        ],
     ];
     for texts in others {
         let mut shelf = shelf_with(alloc, FileList::new(alloc), &[1], 9)?;
         let words = words_of(alloc, texts)?;
-        assert_eq!(rt; run(alloc, &words, &mut shelf), Status::Usage);
-        assert_eq!(rt;
-            run(alloc, &words, &mut shelf),
-            Status::Usage,
-            "the line fails"
-        );
+        assert_eq!(rt; exit_of(&run(alloc, &words, &mut shelf)), 2);
+        let unsaid = run(alloc, &words, &mut shelf);
+        assert!(rt; matches!(unsaid, Status::Usage), "the line fails");
         let line = b"usage: gate-sizer size, check, audit or gen, with options\n";
         assert!(rt; shelf.said.is(line.as_slice()));
     }

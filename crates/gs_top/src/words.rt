@@ -1,12 +1,9 @@
 //! The words that a program is called with.
 ghost use Rattle.std.specs.Prelude.{◌≡◌, [], ◌∷◌, ◌++◌, OnOk, OnErr, map, string_bytes};
 
+use gs_quantity::Mem;
 use std::alloc::Global;
 use std::marker::Model;
-
-/// Want of memory.
-#[derive(Clone, Copy, Debug, PartialEq, Eq)]
-pub struct Mem;
 
 /// The words of a command, the command's name first. Contracts see a list of texts, each as its bytes.
 #[derive(Debug, Drop)]

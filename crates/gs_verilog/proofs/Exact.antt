@@ -1,20 +1,20 @@
 -- Each cause brings its refusal: the causes exclude each other, and whole texts.
 
 use Rattle.std.proofs.Common.{◌≡◌, ◌≢◌, ◌⊎◌, ℕ, List, length, refl, sym, ap, subst, ◌∙◌, inl, inr, Result, Ok, Err, MatchResult}
-use Rattle.gs_grammar.specs.Fronts.{IsFrontOf, IsFirstBad, IsFirstBroken, EndsEarly}
+use Rattle.gs_grammar.specs.Fronts.{IsFirstBad, IsFirstBroken, EndsEarly}
 use Rattle.gs_grammar.specs.Machine.{run}
 use Rattle.gs_grammar.proofs.Exclusive.{whole_front, bad_whole, broken_whole, bad_bad, broken_broken, bad_broken}
 use Rattle.gs_text.specs.declared.kinds.TextErr.{TextErr}
 use Rattle.gs_verilog.specs.Circuit.{Circuit}
 use Rattle.gs_verilog.specs.Machine.{State, Fault, Bad, Twice, step, named_before, start, at_end, ended, reading, judged, outcome, Fails}
 use Rattle.gs_verilog.specs.Refusal.{Cause, HasCause}
-use Rattle.gs_verilog.specs.Text.{VerilogText, IsText}
+use Rattle.gs_verilog.specs.Text.{IsText}
 use Rattle.gs_verilog.specs.Token.{Token, tokens}
 use Rattle.gs_verilog.specs.Tree.{IsForm}
 use Rattle.gs_verilog.specs.declared.error.VerilogErr.{VerilogErr}
 use Rattle.gs_verilog.specs.declared.error.VerilogErr.TheVariants.{NotBuilt, BadPiece, TwoNames, NoEnd, Mem}
 use Rattle.gs_verilog.specs.declared.machine.Place.{Place}
-use Rattle.gs_verilog.specs.declared.machine.Place.TheVariants.{Start, Title, Titled, Header, Headed, HeaderNext, HeaderDone, Items, Names, Named, Instance, InstanceNamed, Pins, Pin, PinNamed, Net, NetNamed, Linked, NextPin, Closed, End}
+use Rattle.gs_verilog.specs.declared.machine.Place.TheVariants.{End}
 use Rattle.gs_verilog.proofs.Laws.{ok_text, err_cause}
 use Rattle.gs_verilog.proofs.Reading.{Answers}
 

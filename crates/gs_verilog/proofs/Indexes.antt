@@ -3,7 +3,7 @@
 use Rattle.std.proofs.Common.{◌≡◌, ℕ, ◌+◌, ◌-◌, ◌<◌, ◌≤◌, ◌==◌, zero, suc, List, [], ◌∷◌, ◌++◌, length, get_or, set, eqb, refl, sym, ap, subst, ◌∙◌, Bool, true, false, cond, ◌||◌, Option, None, Some, if◌then◌else◌, arith, length-append}
 use Rattle.std.specs.List.{list_any}
 use Rattle.std.specs.Map.{update}
-use Rattle.std.specs.Option.{is_some}
+use Rattle.std.specs.Option.{is_some, unwrap_or}
 use Rattle.std.specs.Ordering.{is_eq, nat_cmp}
 use Rattle.std.specs.Str.{bytes_eq}
 use Rattle.std.proofs.lemmas.Bool.Decides.{nat_tests}
@@ -14,7 +14,7 @@ use Rattle.gs_verilog.specs.Text.{number}
 use Rattle.gs_verilog.specs.declared.parts.Link.{Link}
 use Rattle.gs_verilog.specs.declared.parts.Port.{Port}
 use Rattle.gs_verilog.specs.declared.parts.RawInst.{RawInst}
-use Rattle.gs_verilog.proofs.Numbers.{absent-length, position-found, itself, same_bytes, apart, with_net-known, with_net-new, number-put}
+use Rattle.gs_verilog.proofs.Numbers.{absent-length, position-found, position-inside, itself, same_bytes, apart, with_net-new, number-put}
 
 -- ---- nets
 
@@ -30,12 +30,8 @@ says_by names q false e = e
 says : (names : List (List ℕ)) (q : List ℕ) (o : Option ℕ) → o ≡ place_of names q → Says o names q
 says names q o e = subst (λ p. Says p names q) (sym e) (says_by names q (list_any (bytes_eq q) names) refl)
 
--- a name that is found
-pub put_found : (names : List (List ℕ)) (name : List ℕ) (n : ℕ) → Some n ≡ place_of names name → (names ≡ with_net names name) × (n ≡ number names name)
-put_found names name n e = let s = says names name (Some n) e in (sym (with_net-known names name s.0), s.1)
-
 -- a name that isn't
-pub put_new : (names : List (List ℕ)) (name : List ℕ) → None ≡ place_of names name → (names ++ name ∷ [] ≡ with_net names name) × (length names ≡ number names name)
+put_new : (names : List (List ℕ)) (name : List ℕ) → None ≡ place_of names name → (names ++ name ∷ [] ≡ with_net names name) × (length names ≡ number names name)
 put_new names name e =
     let s = says names name None e in
     (sym (with_net-new names name s), sym (absent-length (bytes_eq name) names s))
@@ -75,6 +71,19 @@ pub finds_new : (f g : List ℕ → Option ℕ) (names : List (List ℕ)) (name 
 finds_new f g names name h absent after q =
     let s = says names name None (absent ∙ h name) in
     after q ∙ finds_by f names name q (bytes_eq name q) refl (h q) s
+
+-- a name that is found at the next number, or not at all, is new
+pub put_last : (f g : List ℕ → Option ℕ) (names : List (List ℕ)) (name : List ℕ) (n : ℕ) (o : Option ℕ) → f name ≡ o
+    → ((q : List ℕ) → f q ≡ place_of names q) → n ≡ unwrap_or o (length names) → n ≡ length names
+    → ((q : List ℕ) → g q ≡ update bytes_eq f name (Some n) q)
+    → ((q : List ℕ) → g q ≡ place_of (names ++ name ∷ []) q) × (names ++ name ∷ [] ≡ with_net names name) × (n ≡ number names name)
+put_last f g names name n None e h is last after =
+    let new = put_new names name (sym e ∙ h name) in
+    (finds_new f g names name h (sym e) (λ q. after q ∙ ap (λ m. update bytes_eq f name (Some m) q) last), new.0, last ∙ new.1)
+put_last f g names name n (Some m) e h is last after =
+    let s = says names name (Some m) (sym e ∙ h name) in
+    let less : number names name < length names = position-inside (bytes_eq name) names s.0 in
+    absurd (omega (arith, less, s.1, is, last))
 
 -- ---- directions
 

@@ -1,6 +1,6 @@
 -- Nets by first appearance: numbers stay while the list of nets grows, and the list is the names each once.
 
-use Rattle.std.proofs.Common.{◌≡◌, ℕ, ◌+◌, List, [], ◌∷◌, ◌++◌, length, filter, refl, sym, ap, ◌∙◌, Bool, true, false, not, ◌||◌, append_assoc, append-nil, arith, add-zero}
+use Rattle.std.proofs.Common.{◌≡◌, ℕ, ◌+◌, ◌<◌, List, [], ◌∷◌, ◌++◌, length, filter, refl, sym, ap, ◌∙◌, Bool, true, false, not, ◌||◌, append_assoc, append-nil, arith, add-zero}
 use Rattle.std.specs.List.{list_any, position_or_len}
 use Rattle.std.specs.Str.{bytes_eq}
 use Rattle.std.proofs.lemmas.List.Elements.{filter-append}
@@ -47,6 +47,15 @@ position-absent p (x ∷ xs) ys h = absent_by p x xs ys (p x) refl (position-abs
 
 pub absent-length : {X : Type 0} (p : X → Bool) (xs : List X) → list_any p xs ≡ false → position_or_len p xs ≡ length xs
 absent-length p xs h = ap (position_or_len p) (sym (append-nil xs)) ∙ position-absent p xs [] h ∙ add-zero (length xs)
+
+inside_by : {X : Type 0} (p : X → Bool) (x : X) (xs : List X) (b : Bool) → p x ≡ b
+    → (list_any p xs ≡ true → position_or_len p xs < length xs) → list_any p (x ∷ xs) ≡ true → position_or_len p (x ∷ xs) < length (x ∷ xs)
+inside_by p x xs true e later h = rw e (omega arith)
+inside_by p x xs false e later h = let k : list_any p xs ≡ true = rw e at h in let ih = later k in rw e (omega (arith, ih))
+
+pub position-inside : {X : Type 0} (p : X → Bool) (xs : List X) → list_any p xs ≡ true → position_or_len p xs < length xs
+position-inside p [] h = cc
+position-inside p (x ∷ xs) h = inside_by p x xs (p x) refl (position-inside p xs) h
 
 -- the nets with one name more, by whether it is there
 pub with_net-known : (ns : List (List ℕ)) (x : List ℕ) → list_any (bytes_eq x) ns ≡ true → with_net ns x ≡ ns

@@ -8,7 +8,7 @@ use Rattle.std.specs.Ordering.{nat_cmp}
 use Rattle.std.specs.Str.{bytes_eq}
 use Rattle.gs_verilog.specs.Circuit.{Circuit}
 use Rattle.gs_verilog.specs.Machine.{State, Fault, Bad, Twice, with_net, with_link, has_inst, last_has}
-use Rattle.gs_verilog.specs.Names.{find}
+use Rattle.gs_verilog.specs.Names.{HasBuckets, find}
 use Rattle.gs_verilog.specs.Text.{number}
 use Rattle.gs_verilog.specs.declared.build.Builder.{Builder}
 use Rattle.gs_verilog.specs.declared.nets.Nets.{Nets}
@@ -24,8 +24,9 @@ abbrev pub place_of : List (List ℕ) → List ℕ → Option ℕ
 place_of names q = if list_any (bytes_eq q) names then Some (number names q) else None
 
 -- each net is found at its number
-abbrev pub FindsNets : Nets → Type 0
-FindsNets n = (q : List ℕ) → find n.places q ≡ place_of n.names.items q
+pub record FindsNets (n : Nets) : Type 0 where
+  pub buckets : HasBuckets n.places
+  pub places : (q : List ℕ) → find n.places q ≡ place_of n.names.items q
 
 -- the nets after a name was put, and the number that it has
 pub record Puts (old new : Nets) (name : List ℕ) (n : ℕ) : Type 0 where
@@ -45,7 +46,9 @@ built b = record { name = b.name.now; ports = b.ports.items; nets = b.nets.names
 pub record IsIndexed (b : Builder) : Type 0 where
   pub nets : FindsNets b.nets
   pub directed : (n : ℕ) → contains nat_cmp b.directed n ≡ list_any (λ (p : Port). eqb n p.net) b.ports.items
+  pub named_buckets : HasBuckets b.named
   pub named : (q : List ℕ) → is_some (find b.named q) ≡ has_inst (built b) q
+  pub pins_buckets : HasBuckets b.pins
   pub pins : (q : List ℕ) → PinAt (length b.insts.items) (find b.pins q) (last_has b.insts.items q)
 
 -- the last instance has the pin at the net of this number

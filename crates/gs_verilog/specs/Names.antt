@@ -1,17 +1,17 @@
--- The ordered map by which names are found.
+-- The buckets in which names are found.
 
-use Rattle.std.specs.Prelude.{ℕ, ◌+◌, ◌*◌, ◌%◌, ◌^◌, List, take, Option}
-use Rattle.std.specs.BTreeMap.{get}
+use Rattle.std.specs.Prelude.{ℕ, ◌+◌, ◌*◌, ◌%◌, ◌<◌, ◌^◌, List, length, Option, None, Some}
+use Rattle.std.specs.BTreeMap.{BTreeMap, get}
 use Rattle.std.specs.Cmp.Lexicographic.{slice_cmp}
-use Rattle.std.specs.List.{fold}
+use Rattle.std.specs.List.{fold, slice_get}
 use Rattle.std.specs.Ordering.{nat_cmp, ordering_then}
 use Rattle.std.specs.declared.cmp.Ordering.{Ordering}
 use Rattle.gs_verilog.specs.declared.names.NameMap.{NameMap}
 use denote.Ref.{Bor}
 
--- the first eight bytes as one number
-unfoldable pub head_of : List ℕ → ℕ
-head_of name = fold (λ head byte. ((head * 256) % 2 ^ 64 + byte) % 2 ^ 64) 0 (take 8 name)
+-- all bytes as one number
+unfoldable pub hash_of : List ℕ → ℕ
+hash_of name = fold (λ hash byte. ((hash * 31) % 2 ^ 64 + byte) % 2 ^ 64) 0 name
 
 abbrev pub Key : Type 0
 Key = ℕ × Bor (List ℕ)
@@ -21,8 +21,16 @@ abbrev pub key_cmp : Key → Key → Ordering
 key_cmp x y = ordering_then (nat_cmp x.0 y.0) (slice_cmp nat_cmp x.1.now y.1.now)
 
 abbrev pub key_of : List ℕ → Key
-key_of name = (head_of name, record { ref_ptr = (0, 0); now = name })
+key_of name = (hash_of name, record { ref_ptr = (0, 0); now = name })
 
--- the number of a name
+-- the number of a key in a bucket
+abbrev pub find_in : Option (BTreeMap Key ℕ) → Key → Option ℕ
+find_in None k = None
+find_in (Some bucket) k = get key_cmp bucket k
+
+-- the number of a name: its bucket is the one at its hash, modulo their number
 abbrev pub find : NameMap → List ℕ → Option ℕ
-find m name = get key_cmp m.map (key_of name)
+find m name = find_in (slice_get m.buckets.items (hash_of name % length m.buckets.items)) (key_of name)
+
+abbrev pub HasBuckets : NameMap → Type 0
+HasBuckets m = 0 < length m.buckets.items

@@ -14,7 +14,7 @@ use gs_text::Name;
 use std::alloc::Global;
 use std::collections::BTreeSet;
 
-/// The netlist so far. Names are found by ordered maps that borrow the text.
+/// The netlist so far. Names are found by maps that borrow the text.
 #[derive(Drop)]
 pub struct Builder<'a> {
     /// The module's name.
@@ -43,20 +43,26 @@ fn add_link(insts: &mut Vec<RawInst>, link: Link) -> Result<(), StepErr>
 }
 
 impl<'a> Builder<'a> {
-    /// The netlist without a name, a net or an instance.
-    pub fn new(alloc: Global) -> Builder<'a>
-        ensures indexed { IsIndexed result }
-        ensures value { built result ≡ empty }
+    /// The netlist without a name, a net or an instance. The names of nets will be found in `count` buckets,
+    /// and those of instances in as many.
+    pub fn new(alloc: Global, count: usize) -> Result<Builder<'a>, StepErr>
+        requires { 0 < count }
+        ensures indexed { IfOk result IsIndexed }
+        ensures value { IfOk result (λ b. built b ≡ empty) }
+        ensures err { IfErr result (λ e. e ≡ StepErr.Mem) }
     {
-        Builder {
+        let nets = Nets::new(alloc, count)?;
+        let named = NameMap::new(alloc, count)?;
+        let pins = NameMap::new(alloc, 1)?;
+        Ok(Builder {
             name: &[],
-            nets: Nets::new(alloc),
+            nets,
             ports: Vec::new(alloc),
             directed: BTreeSet::new(alloc),
             insts: Vec::new(alloc),
-            named: NameMap::new(alloc),
-            pins: NameMap::new(alloc),
-        }
+            named,
+            pins,
+        })
     }
 
     /// A name gets a direction, which it may not have already.
@@ -134,7 +140,7 @@ impl<'a> Builder<'a> {
             return Ok(());
         }
         let name = Name::copy_of(alloc, pin)?;
-        self.pins.set(pin, count as u32)?;
+        self.pins.insert(pin, count as u32)?;
         add_link(&mut self.insts, Link { pin: name, net })?;
         Ok(())
     }

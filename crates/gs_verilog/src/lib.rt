@@ -11,8 +11,9 @@
 //! - `specs/Machine.antt`: the same answer as a function of the bytes, token by token; `outcome` is that function.
 //! - `specs/Index.antt`, `specs/Names.antt`: the reader's own maps, of which the public contract says nothing.
 //!
-//! Reading takes one pass over the bytes and one over the pieces. Names are found by ordered maps that borrow the text, so
-//! the time is that of the text's length, times the logarithm of the number of names. Nothing recurses.
+//! Reading takes one pass over the bytes and one over the pieces. Names are found by maps that borrow the text, each a list of
+//! buckets by a hash of the name, with an ordered map in each. The number of buckets grows with the text, so the time is that of
+//! the text's length, and where hashes meet by design at most that times the logarithm of the number of names. Nothing recurses.
 //!
 //! A new kind of item is a case of `Item` in `specs/Tree.antt`, a row of the table `next`, and an arm of `Reader::enter`.
 #![tactic(auto)]

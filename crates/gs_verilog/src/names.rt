@@ -1,72 +1,124 @@
-//! An ordered map from names to numbers.
+//! A map from names to numbers.
 #![tactic(auto)]
 
-ghost use Rattle.std.specs.Prelude.{◌≡◌, ℕ, List, None, Some, IfOk, IfErr, OnOk, option_copied};
+ghost use Rattle.std.specs.Prelude.{◌≡◌, cond, ◌<◌, ◌%◌, ◌^◌, ℕ, List, None, Some, length, IfOk, IfErr, OnOk, option_copied};
+ghost use Rattle.std.specs.BTreeMap.{IsEmpty, get, is_at};
+ghost use Rattle.std.specs.List.{All};
 ghost use Rattle.std.specs.Map.{update};
+ghost use Rattle.std.specs.Option.{unwrap_or};
 ghost use Rattle.std.specs.Str.{bytes_eq};
-ghost use Rattle.gs_verilog.specs.Names.{find, head_of};
+ghost use Rattle.gs_verilog.specs.Names.{HasBuckets, find, hash_of};
 
 use crate::error::StepErr;
 use std::alloc::Global;
 use std::collections::BTreeMap;
 
-/// A map from names to numbers, which borrows the names. Its keys begin with the names' first eight bytes as one number,
-/// so that most comparisons don't look at the text.
+/// Some of the names: each with its hash before it, so that most comparisons don't look at the text.
+pub type Bucket<'a> = BTreeMap<(u64, &'a [u8]), u32>;
+
+/// A map from names to numbers, which borrows the names. A name stands in the bucket of its hash, and each bucket is an ordered
+/// map: a search looks at a small one where hashes differ, and names that were chosen to meet in one bucket still cost no
+/// more than one ordered map of them all.
 #[derive(Drop)]
 pub struct NameMap<'a> {
-    pub map: BTreeMap<(u64, &'a [u8]), u32>,
+    pub buckets: Vec<Bucket<'a>>,
 }
 
-/// The first eight bytes of a name as one number.
-#[tactic(auto, unfolding(crate::specs::Names::head_of))]
-fn head(name: &[u8]) -> u64
-    ensures { result ≡ head_of name.now }
+/// All bytes of a name as one number.
+#[tactic(auto, unfolding(crate::specs::Names::hash_of))]
+fn hash_of(name: &[u8]) -> u64
+    ensures { result ≡ hash_of name.now }
 {
-    name.iter().take(8).fold(
-        0u64,
-        |head, byte| head.wrapping_mul(256).wrapping_add(u64::from(*byte)),
-    )
+    name.iter().fold(0u64, |hash, byte| {
+        hash.wrapping_mul(31).wrapping_add(u64::from(*byte))
+    })
+}
+
+/// `count` empty buckets.
+fn empty_buckets<'a>(alloc: Global, count: usize) -> Result<Vec<Bucket<'a>>, StepErr>
+    ensures count { IfOk result (λ buckets. length buckets.items ≡ count) }
+    ensures empty { IfOk result (λ buckets. All IsEmpty buckets.items) }
+    ensures err { IfErr result (λ e. e ≡ StepErr.Mem) }
+{
+    let mut buckets = Vec::with_capacity(alloc, count)?;
+    for _ in 0..count {
+        buckets.push(BTreeMap::new(alloc))?;
+    }
+    Ok(buckets)
+}
+
+/// The number of a key, which gets this one where it had none.
+fn get_or_insert<K: Ord + Drop>(
+    map: &mut BTreeMap<K, u32>,
+    key: K,
+    number: u32,
+) -> Result<u32, StepErr>
+    ensures number { IfOk result (λ n. n ≡ unwrap_or (get K.cmp map.old key) number) }
+    ensures updates { IfOk result (λ n. (q : K) → get K.cmp map.new q ≡ cond (is_at (K.cmp key) q) (Some n) (get K.cmp map.old q)) }
+    ensures err { IfErr result (λ e. e ≡ StepErr.Mem) }
+{
+    let found = map.entry(key)?.or_insert(number);
+    Ok(*found)
 }
 
 impl<'a> NameMap<'a> {
-    /// No names. It takes no memory.
-    pub fn new(alloc: Global) -> NameMap<'a>
-        ensures { (q : List ℕ) → find result q ≡ None }
+    /// No names, in `count` buckets.
+    pub fn new(alloc: Global, count: usize) -> Result<NameMap<'a>, StepErr>
+        requires { 0 < count }
+        ensures buckets { IfOk result HasBuckets }
+        ensures empty { IfOk result (λ m. (q : List ℕ) → find m q ≡ None) }
+        ensures err { IfErr result (λ e. e ≡ StepErr.Mem) }
     {
-        NameMap {
-            map: BTreeMap::new(alloc),
-        }
+        let buckets = empty_buckets(alloc, count)?;
+        Ok(NameMap { buckets })
+    }
+
+    /// The place of a hash's bucket.
+    fn place(&self, hash: u64) -> usize
+        requires { HasBuckets self.now }
+        ensures { result ≡ hash % length self.now.buckets.items }
+    {
+        (hash % self.buckets.len() as u64) as usize
     }
 
     /// The number of a name.
     pub fn get(&self, name: &'a [u8]) -> Option<u32>
+        requires { HasBuckets self.now }
         ensures { result ≡ find self.now name.now }
     {
-        let key = (head(name), name);
-        self.map.get(&key).copied()
+        let hash = hash_of(name);
+        let bucket = &self.buckets[self.place(hash)];
+        let key = (hash, name);
+        bucket.get(&key).copied()
     }
 
     /// Gives a name a number, and answers the one that it had.
     pub fn insert(&mut self, name: &'a [u8], number: u32) -> Result<Option<u32>, StepErr>
+        requires { HasBuckets self.old }
+        ensures buckets { OnOk result (HasBuckets self.new) }
         ensures old { IfOk result (λ old. old ≡ find self.old name.now) }
         ensures updates { OnOk result ((q : List ℕ) → find self.new q ≡ update bytes_eq (find self.old) name.now (Some number) q) }
         ensures err { IfErr result (λ e. e ≡ StepErr.Mem) }
     {
-        let old = self.map.insert((head(name), name), number)?;
+        let hash = hash_of(name);
+        let place = self.place(hash);
+        let bucket = &mut self.buckets[place];
+        let old = bucket.insert((hash, name), number)?;
         Ok(old)
     }
 
-    /// Gives a name a number, whether it had one or not.
-    pub fn set(&mut self, name: &'a [u8], number: u32) -> Result<(), StepErr>
-        ensures updates { OnOk result ((q : List ℕ) → find self.new q ≡ update bytes_eq (find self.old) name.now (Some number) q) }
+    /// The number of a name, which gets this one where it had none.
+    pub fn get_or_insert(&mut self, name: &'a [u8], number: u32) -> Result<u32, StepErr>
+        requires { HasBuckets self.old }
+        ensures buckets { OnOk result (HasBuckets self.new) }
+        ensures number { IfOk result (λ n. n ≡ unwrap_or (find self.old name.now) number) }
+        ensures updates { IfOk result (λ n. (q : List ℕ) → find self.new q ≡ update bytes_eq (find self.old) name.now (Some n) q) }
         ensures err { IfErr result (λ e. e ≡ StepErr.Mem) }
     {
-        let key = (head(name), name);
-        if let Some(place) = self.map.get_mut(&key) {
-            *place = number;
-            return Ok(());
-        }
-        self.insert(name, number)?;
-        Ok(())
+        let hash = hash_of(name);
+        let place = self.place(hash);
+        let bucket = &mut self.buckets[place];
+        let found = get_or_insert(bucket, (hash, name), number)?;
+        Ok(found)
     }
 }

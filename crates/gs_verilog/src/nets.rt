@@ -17,15 +17,18 @@ pub struct Nets<'a> {
 }
 
 impl<'a> Nets<'a> {
-    /// No nets. It takes no memory.
-    pub fn new(alloc: Global) -> Nets<'a>
-        ensures names { result.names.items ≡ [] }
-        ensures finds { FindsNets result }
+    /// No nets. Their names will be found in `count` buckets.
+    pub fn new(alloc: Global, count: usize) -> Result<Nets<'a>, StepErr>
+        requires { 0 < count }
+        ensures names { IfOk result (λ n. n.names.items ≡ []) }
+        ensures finds { IfOk result FindsNets }
+        ensures err { IfErr result (λ e. e ≡ StepErr.Mem) }
     {
-        Nets {
+        let places = NameMap::new(alloc, count)?;
+        Ok(Nets {
             names: Vec::new(alloc),
-            places: NameMap::new(alloc),
-        }
+            places,
+        })
     }
 
     /// The number of a net, which a new name puts last.
@@ -35,13 +38,12 @@ impl<'a> Nets<'a> {
         ensures ok { IfOk result (λ n. Puts self.old self.new name.now n) }
         ensures err { IfErr result (λ e. e ≡ StepErr.Mem) }
     {
-        if let Some(place) = self.places.get(name) {
-            return Ok(place);
+        let count = self.names.len() as u32;
+        let place = self.places.get_or_insert(name, count)?;
+        if place == count {
+            let copy = Name::copy_of(alloc, name)?;
+            self.names.push(copy)?;
         }
-        let place = self.names.len() as u32;
-        let copy = Name::copy_of(alloc, name)?;
-        self.names.push(copy)?;
-        self.places.insert(name, place)?;
         Ok(place)
     }
 }

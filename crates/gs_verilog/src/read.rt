@@ -6,8 +6,8 @@ ghost use Rattle.std.specs.List.{All};
 ghost use Rattle.gs_text.specs.Cut.{ComesIn};
 ghost use Rattle.gs_text.specs.Pieces.{HasGoodText, LiesIn, text_of};
 ghost use Rattle.gs_verilog.specs.Circuit.{Circuit};
-ghost use Rattle.gs_verilog.specs.Index.{refusal_of, unread};
-ghost use Rattle.gs_verilog.specs.Machine.{Fails, outcome, reading};
+ghost use Rattle.gs_verilog.specs.Index.{IsIndexed, refusal_of, state_of, unread};
+ghost use Rattle.gs_verilog.specs.Machine.{Fails, outcome, reading, start};
 ghost use Rattle.gs_verilog.specs.Refusal.{HasCause, IsVerilog};
 ghost use Rattle.gs_verilog.specs.Token.{token_of};
 
@@ -40,6 +40,19 @@ fn unread(error: TextErr) -> VerilogErr
     }
 }
 
+/// A reader for so many pieces, with a bucket for each 128 of them: about six instances, and as many new nets.
+fn reader_for<'a>(alloc: Global, pieces: usize) -> Result<Reader<'a>, VerilogErr>
+    requires { pieces ≤ 2 ^ 28 }
+    ensures indexed { IfOk result (λ r. IsIndexed r.built) }
+    ensures value { IfOk result (λ r. state_of r ≡ start) }
+    ensures err { IfErr result (λ e. e ≡ VerilogErr.Mem) }
+{
+    match Reader::new(alloc, pieces / 128 + 1) {
+        Ok(reader) => Ok(reader),
+        Err(_) => Err(VerilogErr::Mem),
+    }
+}
+
 /// Reads the pieces of a text.
 fn read_pieces(alloc: Global, bytes: &[u8], pieces: &[Piece]) -> Result<Netlist, VerilogErr>
     requires few { length pieces.now ≤ 2 ^ 28 }
@@ -48,7 +61,7 @@ fn read_pieces(alloc: Global, bytes: &[u8], pieces: &[Piece]) -> Result<Netlist,
     ensures few { IfOk result (λ n. length n.insts ≤ length pieces.now) }
     ensures answer { MatchResult result (λ n. reading (map (token_of bytes.now) pieces.now) ≡ Ok n) (λ e. Fails e (reading (map (token_of bytes.now) pieces.now))) }
 {
-    let mut reader = Reader::new(alloc);
+    let mut reader = reader_for(alloc, pieces.len())?;
     for (i, piece) in pieces.iter().enumerate() {
         let text = text_of(bytes, piece);
         match reader.take(alloc, piece.kind, text) {

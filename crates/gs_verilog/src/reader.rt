@@ -28,17 +28,21 @@ pub struct Reader<'a> {
 }
 
 impl<'a> Reader<'a> {
-    /// A reader before the first token.
-    pub fn new(alloc: Global) -> Reader<'a>
-        ensures indexed { IsIndexed result.built }
-        ensures value { state_of result ≡ start }
+    /// A reader before the first token. The names of nets will be found in `count` buckets, and those of instances
+    /// in as many.
+    pub fn new(alloc: Global, count: usize) -> Result<Reader<'a>, StepErr>
+        requires { 0 < count }
+        ensures indexed { IfOk result (λ r. IsIndexed r.built) }
+        ensures value { IfOk result (λ r. state_of r ≡ start) }
+        ensures err { IfErr result (λ e. e ≡ StepErr.Mem) }
     {
-        Reader {
+        let built = Builder::new(alloc, count)?;
+        Ok(Reader {
             place: Place::Start,
-            built: Builder::new(alloc),
+            built,
             cell: &[],
             pin: &[],
-        }
+        })
     }
 
     /// Keeps a pin's name, which the last instance may not have.

@@ -1,7 +1,7 @@
 use Rattle.std.proofs.Common.{sym, subst, ap, List}
 use Rattle.gs_text.specs.declared.kinds.Piece.{Piece}
 use Rattle.gs_verilog.specs.Machine.{Fails, outcome}
-use Rattle.std.proofs.Common.{◌≤◌, length, arith}
+use Rattle.std.proofs.Common.{length, arith}
 use Rattle.gs_verilog.proofs.Reading.{answers_pieces, fewer_insts, unread_fails}
 use Rattle.gs_verilog.proofs.read.read_text.Goals as goal
 

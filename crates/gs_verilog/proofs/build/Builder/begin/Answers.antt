@@ -22,6 +22,8 @@ returns-clause-indexed c =
     record {
       nets = c.requires.indexed.nets;
       directed = c.requires.indexed.directed;
+      named_buckets = c.in_ok-insert.ensures.buckets;
+      pins_buckets = c.requires.indexed.pins_buckets;
       named = λ q.
           named_new f _ is i c.len-count.result c.requires.indexed.named
           (λ r. c.in_ok-insert.ensures.updates r

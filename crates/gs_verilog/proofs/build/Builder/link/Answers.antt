@@ -24,12 +24,14 @@ returns-clause-indexed c =
     record {
       nets = c.requires.indexed.nets;
       directed = c.requires.indexed.directed;
+      named_buckets = c.requires.indexed.named_buckets;
+      pins_buckets = c.in_ok-insert.ensures.buckets;
       named = λ q.
           c.requires.indexed.named q ∙ sym (names_linked is l q) ∙ ap (λ js. list_any (λ (j : RawInst). bytes_eq q j.name) js) (sym items);
       pins = λ q.
-          let P : List RawInst → Type 0 = λ js. PinAt (length js) (find c.set.new.self q) (last_has js q) in
+          let P : List RawInst → Type 0 = λ js. PinAt (length js) (find c.insert.new.self q) (last_has js q) in
           subst P (sym items) (pins_linked pins _ is l some c.requires.indexed.pins
-          (λ r. c.in_ok-set.ensures.updates r
+          (λ r. c.in_ok-insert.ensures.updates r
           ∙ ap (λ m. update bytes_eq pins pin (Some m) r) n
           ∙ ap (λ (p : List ℕ). update bytes_eq pins p (Some (length is)) r) (sym same)) q);
     }

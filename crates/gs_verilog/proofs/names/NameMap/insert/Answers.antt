@@ -1,12 +1,19 @@
-use Rattle.std.proofs.Common.{◌∙◌, refl, Some}
+use Rattle.std.proofs.Common.{◌∙◌, refl, arith, length-set, Some}
+use Rattle.std.specs.Vec.{with_item}
 use Rattle.gs_verilog.proofs.Keys.{found_after, found_by_key}
 use Rattle.gs_verilog.proofs.names.NameMap.insert.Goals as goal
 
 pub returns : goal.returns
 returns c =
+    let m = c.args.self.now in
+    let b = c.index_mut-bucket.result.now in
+    let p = c.place-place.result in
+    let name = c.args.name.now in
     record {
-      old = c.in_ok-old.ensures.old ∙ found_by_key c.args.self.now (c.head.result, c.args.name) c.args.name.now c.head.ensures refl;
-      updates = found_after c.args.self.now (record { map = c.insert.new.self }) (c.head.result, c.args.name) c.args.name.now (Some c.args.number)
-          c.head.ensures refl c.in_ok-old.ensures.updates.0;
+      buckets = omega (arith, c.requires, length-set m.buckets.items p c.insert.new.self);
+      old = c.in_ok-old.ensures.old
+          ∙ found_by_key m (c.hash_of-hash.result, c.args.name) name p b c.requires c.hash_of-hash.ensures refl c.place-place.ensures c.index_mut-bucket.ensures.value;
+      updates = found_after m (record { buckets = with_item m.buckets p c.insert.new.self }) (c.hash_of-hash.result, c.args.name) name (Some c.args.number) p b c.insert.new.self
+          c.requires c.hash_of-hash.ensures refl c.place-place.ensures c.index_mut-bucket.ensures.value refl c.in_ok-old.ensures.updates.0;
       err = tt;
     }

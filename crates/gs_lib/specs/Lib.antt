@@ -1,0 +1,8 @@
+pub mod Amount
+pub mod Attribute
+pub mod Cells
+pub mod Index
+pub mod PowerUnit
+pub mod Reading
+pub mod Refusal
+pub mod Table

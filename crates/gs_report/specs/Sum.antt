@@ -1,0 +1,43 @@
+-- The leakage of a netlist at the cells that its instances name.
+
+use Rattle.std.specs.Prelude.{ℕ, ◌≡◌, ◌<◌, ◌^◌, nat_lt, Bool, List, length, unwrap_or, Result, Ok, Err, ℤ, pos, ◌+ℤ◌, fold, if◌then◌else◌}
+use Rattle.std.specs.List.{prefix_len}
+use Rattle.std.specs.Option.{is_some}
+use Rattle.gs_lib.specs.Table.{leakage_of}
+use Rattle.gs_lib.specs.declared.row.LeakRow.{LeakRow}
+use Rattle.gs_report.specs.declared.error.SumErr.{SumErr}
+use Rattle.gs_report.specs.declared.error.SumErr.TheVariants.{UnknownCell, TooMany}
+use Rattle.gs_verilog.specs.declared.parts.RawInst.{RawInst}
+
+-- whether the instance's cell is in the library
+abbrev pub is_known : List LeakRow → RawInst → Bool
+is_known rows i = is_some (leakage_of rows i.cell)
+
+-- how many instances stand before the first whose cell isn't in the library
+abbrev pub known_of : List LeakRow → List RawInst → ℕ
+known_of rows insts = prefix_len (is_known rows) insts
+
+-- the leakage of the instance's cell, or 0 where the library lacks it
+abbrev pub leakage_at : List LeakRow → RawInst → ℤ
+leakage_at rows i = unwrap_or (leakage_of rows i.cell) (pos 0)
+
+-- the sum of the leakages of the instances' cells
+abbrev pub total_of : List LeakRow → List RawInst → ℤ
+total_of rows insts = fold (λ sum i. sum +ℤ leakage_at rows i) (pos 0) insts
+
+-- where all cells are known: the sum, or too many instances
+abbrev pub limited_sum : List LeakRow → List RawInst → Result ℤ SumErr
+limited_sum rows insts = if nat_lt (length insts) (2 ^ 21) then Ok (total_of rows insts) else Err (TooMany (length insts))
+
+-- the sum; or the first instance whose cell isn't in the library; or else too many instances
+abbrev pub sum_of : List LeakRow → List RawInst → Result ℤ SumErr
+sum_of rows insts =
+    if nat_lt (known_of rows insts) (length insts) then Err (UnknownCell (known_of rows insts)) else limited_sum rows insts
+
+-- all cells are known, and this is the sum
+abbrev pub HasSum : List LeakRow → List RawInst → ℤ → Type 0
+HasSum rows insts sum = (known_of rows insts ≡ length insts) × (sum ≡ total_of rows insts)
+
+-- instance k is the first whose cell isn't in the library
+abbrev pub LacksCell : List LeakRow → List RawInst → ℕ → Type 0
+LacksCell rows insts k = (known_of rows insts ≡ k) × (k < length insts)

@@ -1,0 +1,22 @@
+//! The report of a run: the true leakage of a netlist, and the text that says it.
+//!
+//! - [`sum_leakage`] adds the leakage of the cells that a netlist's instances name. Its one clause says its answer for every
+//!   netlist and every table: the exact sum in whole millionths, or the first instance whose cell the library lacks, or that
+//!   there are too many instances (`sum_of` in `specs/Sum.antt`).
+//! - [`write_leak_report`] makes the report's text (`report_text` in `specs/Text.antt`).
+//!
+//! The sum is one pass over the instances with one look into the library's ordered map for each, and takes no memory. The text
+//! takes memory for itself alone.
+//!
+//! A further line of the report is a part of `report_text`, and of `write_leak_report`.
+#![tactic(auto)]
+
+mod error;
+mod sum;
+#[cfg(test)]
+mod tests;
+mod text;
+
+pub use error::SumErr;
+pub use sum::sum_leakage;
+pub use text::write_leak_report;

@@ -1,0 +1,92 @@
+//! The leakage of a netlist.
+ghost use Rattle.std.specs.Prelude.{◌≡◌, ◌^◌, ◌<◌, ◌≤◌, ℤ, pos, ◌≤ℤ◌, ◌<ℤ◌, length, Err, MatchResult, IfSome};
+ghost use Rattle.gs_lib.specs.Table.{IsLeakTable, leakage_of};
+ghost use Rattle.gs_report.specs.Sum.{HasSum, LacksCell, known_of, sum_of};
+
+use crate::error::SumErr;
+use gs_lib::Leaks;
+use gs_quantity::Micro;
+use gs_verilog::{Netlist, RawInst};
+
+/// So many instances are too many.
+const LIMIT: usize = 1 << 21;
+
+/// The number of millionths.
+fn millionths(quantity: Micro) -> i64
+    ensures { result ≡ quantity }
+{
+    quantity.0
+}
+
+/// The leakage of an instance's cell.
+fn leakage(inst: &RawInst, leaks: &Leaks) -> Option<i64>
+    requires { IsLeakTable leaks.now }
+    ensures value { result ≡ leakage_of leaks.now.cells inst.now.cell }
+    ensures within { IfSome result (λ m. (pos 0 ≤ℤ m) × (m <ℤ pos 1099511627776)) }
+{
+    match leaks.leakage_of(&inst.cell) {
+        Some(leakage) => Some(millionths(leakage)),
+        None => None,
+    }
+}
+
+/// The sum over fewer instances than the limit, or the number of the first whose cell the library lacks.
+fn add_leakages(insts: &[RawInst], leaks: &Leaks) -> Result<i64, usize>
+    requires few { length insts.now < 2 ^ 21 }
+    requires kept { IsLeakTable leaks.now }
+    ensures { MatchResult result (HasSum leaks.now.cells insts.now) (LacksCell leaks.now.cells insts.now) }
+{
+    let mut sum = 0i64;
+    for (k, inst) in insts.iter().enumerate() {
+        match leakage(inst, leaks) {
+            Some(leakage) => sum += leakage,
+            None => return Err(k),
+        }
+    }
+    Ok(sum)
+}
+
+/// How many instances stand before the first whose cell the library lacks.
+fn count_known(insts: &[RawInst], leaks: &Leaks) -> usize
+    ensures { result ≡ known_of leaks.now.cells insts.now }
+{
+    insts
+        .iter()
+        .take_while(|inst| leaks.leakage_of(&inst.cell).is_some())
+        .count()
+}
+
+/// Why so many instances have no sum.
+fn refuse_many(insts: &[RawInst], leaks: &Leaks) -> SumErr
+    requires { 2 ^ 21 ≤ length insts.now }
+    ensures { Err result ≡ sum_of leaks.now.cells insts.now }
+{
+    let known = count_known(insts, leaks);
+    if known < insts.len() {
+        return SumErr::UnknownCell { inst: known as u64 };
+    }
+    SumErr::TooMany {
+        count: insts.len() as u64,
+    }
+}
+
+/// The sum of the leakages of the cells that the instances name, exactly, in millionths of the library's unit of leakage. It
+/// takes no memory.
+///
+/// # Errors
+///
+/// `UnknownCell` of the first instance whose cell the library lacks; else `TooMany` for `2^21` instances or more.
+pub fn sum_leakage(netlist: &Netlist, leaks: &Leaks) -> Result<Micro, SumErr>
+    // The answer for every netlist and every library.
+    ensures { result ≡ sum_of leaks.now.cells netlist.now.insts }
+{
+    let insts = netlist.insts();
+    if insts.len() >= LIMIT {
+        return Err(refuse_many(insts, leaks));
+    }
+    let _kept = leaks.cells();
+    match add_leakages(insts, leaks) {
+        Ok(sum) => Ok(Micro(sum)),
+        Err(k) => Err(SumErr::UnknownCell { inst: k as u64 }),
+    }
+}
