@@ -9,11 +9,14 @@
 //! - `specs/Cells.antt`: the table that a tree stands for.
 //! - `specs/Refusal.antt`: the cause of each refusal.
 //! - `specs/Attribute.antt`, `specs/Amount.antt`, `specs/PowerUnit.antt`: attributes and groups by name, a number that isn't
-//!   negative, a unit's form. They know nothing of leakage, and serve whatever else of a library is read.
+//!   negative, the unit of leakage. They speak of no cell, and serve whatever else of a library is read.
 //! - `specs/Reading.antt`: the same answer as a function of the tree, cell by cell; `specs/Index.antt` is the map by which
 //!   a cell is found, of which the public contract says nothing.
 //!
-//! Reading takes one pass over the root's items for the unit and one for the cells, each with a look into an ordered map.
+//! Reading takes one pass over the root's items for the unit and one for the cells; a cell costs a pass over its own items and a
+//! look into an ordered map.
+//!
+//! A further attribute of a cell that counts is a definition beside `leakage_value` in `specs/Cells.antt`, and a step of `Builder::take`.
 #![tactic(auto)]
 
 mod amount;

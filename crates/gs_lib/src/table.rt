@@ -43,7 +43,7 @@ impl Leaks {
         Leaks { unit, cells, index }
     }
 
-    /// The name of the unit of leakage, 1 to 16 printable bytes without a blank; empty where the library has none.
+    /// The name of the unit of leakage, as the library gives it; empty where it gives none.
     pub fn unit(&self) -> &Name
         ensures { result.now ≡ self.now.unit }
     {

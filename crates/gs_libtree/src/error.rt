@@ -3,7 +3,7 @@
 
 use std::alloc::{AllocError, AllocFailed};
 
-/// Why a text is no Liberty text. A place `i` counts the pieces of the text from 0.
+/// Why a text is no Liberty text. A place `i` counts the pieces of the text from 0, and `at` its bytes from 0.
 #[derive(Debug, PartialEq, Eq, Drop)]
 pub enum LibTextErr {
     /// The string that begins with the quote at byte `at` has no end.

@@ -1,13 +1,11 @@
 -- The leakage of a cell is an amount, and is as it is read back from its bits.
-use Rattle.std.proofs.Common.{◌≡◌, ℕ, List, [], ◌∷◌, Bool, true, false, cond, Option, None, Some, ℤ, pos, ◌≤ℤ◌, ◌<ℤ◌, to_z, of_z, w64, refl, subst, sym, arith}
-use Rattle.std.proofs.lemmas.Int.{ints, to_z-of_z}
+use Rattle.std.proofs.Common.{◌≡◌, ℕ, List, [], ◌∷◌, Bool, true, false, cond, Option, Some, ℤ, to_z, of_z, w64, subst, arith}
+use Rattle.std.proofs.lemmas.Int.{ints}
 use Rattle.std.specs.List.{AllByRecursion}
 use Rattle.std.specs.Str.{bytes_eq}
+use Rattle.gs_lib.specs.Amount.{IsAmount}
 use Rattle.gs_lib.specs.Table.{leakage_of, HasAmount}
 use Rattle.gs_lib.specs.declared.row.LeakRow.{LeakRow}
-
-abbrev pub IsAmount : ℤ → Type 0
-IsAmount m = (pos 0 ≤ℤ m) × (m <ℤ pos 1099511627776)
 
 first : (b : Bool) (m x : ℤ) (later : Option ℤ) → IsAmount x → (later ≡ Some m → IsAmount m) → cond b (Some x) later ≡ Some m → IsAmount m
 first true m x later here after e = let same : x ≡ m = cc in subst IsAmount same here

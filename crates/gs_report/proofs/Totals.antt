@@ -1,5 +1,5 @@
 -- A further instance in the sum.
-use Rattle.std.proofs.Common.{◌≡◌, ◌∙◌, sym, ap, ℕ, ◌+◌, ◌*◌, ◌<◌, List, length, get_or, take, Option, None, Some, true, false, ℤ, pos, ◌+ℤ◌, ◌≤ℤ◌, ◌<ℤ◌, to_z, of_z, w64, arith}
+use Rattle.std.proofs.Common.{◌≡◌, ◌∙◌, ap, ℕ, ◌+◌, ◌*◌, ◌<◌, List, length, get_or, take, None, Some, true, false, ℤ, pos, ◌+ℤ◌, ◌≤ℤ◌, to_z, of_z, w64, arith}
 use Rattle.std.proofs.lemmas.Int.{ints}
 use Rattle.std.proofs.lemmas.List.Sums.{fold_more}
 use Rattle.std.specs.Prelude.{unwrap_or}
@@ -7,7 +7,7 @@ use Rattle.std.specs.Option.{is_some}
 use Rattle.gs_lib.specs.Table.{leakage_of}
 use Rattle.gs_lib.specs.declared.row.LeakRow.{LeakRow}
 use Rattle.gs_report.specs.Sum.{is_known, leakage_at, total_of}
-use Rattle.gs_report.proofs.Amounts.{IsAmount}
+use Rattle.gs_lib.specs.Amount.{IsAmount}
 use Rattle.gs_verilog.specs.declared.parts.RawInst.{RawInst}
 
 -- the sum as it is added in so many bits

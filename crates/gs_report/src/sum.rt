@@ -1,5 +1,6 @@
 //! The leakage of a netlist.
-ghost use Rattle.std.specs.Prelude.{◌≡◌, ◌^◌, ◌<◌, ◌≤◌, ℤ, pos, ◌≤ℤ◌, ◌<ℤ◌, length, Err, MatchResult, IfSome};
+ghost use Rattle.std.specs.Prelude.{◌≡◌, ◌^◌, ◌<◌, ◌≤◌, length, Err, MatchResult, IfSome};
+ghost use Rattle.gs_lib.specs.Amount.{IsAmount};
 ghost use Rattle.gs_lib.specs.Table.{IsLeakTable, leakage_of};
 ghost use Rattle.gs_report.specs.Sum.{HasSum, LacksCell, known_of, sum_of};
 
@@ -22,7 +23,7 @@ fn millionths(quantity: Micro) -> i64
 fn leakage(inst: &RawInst, leaks: &Leaks) -> Option<i64>
     requires { IsLeakTable leaks.now }
     ensures value { result ≡ leakage_of leaks.now.cells inst.now.cell }
-    ensures within { IfSome result (λ m. (pos 0 ≤ℤ m) × (m <ℤ pos 1099511627776)) }
+    ensures within { IfSome result IsAmount }
 {
     match leaks.leakage_of(&inst.cell) {
         Some(leakage) => Some(millionths(leakage)),
@@ -77,8 +78,8 @@ fn refuse_many(insts: &[RawInst], leaks: &Leaks) -> SumErr
 ///
 /// `UnknownCell` of the first instance whose cell the library lacks; else `TooMany` for `2^21` instances or more.
 pub fn sum_leakage(netlist: &Netlist, leaks: &Leaks) -> Result<Micro, SumErr>
-    // The answer for every netlist and every library.
-    ensures { result ≡ sum_of leaks.now.cells netlist.now.insts }
+    // The answer for every netlist and every library: the sum, exactly where each cell is known and the instances are few enough.
+    ensures exact { result ≡ sum_of leaks.now.cells netlist.now.insts }
 {
     let insts = netlist.insts();
     if insts.len() >= LIMIT {

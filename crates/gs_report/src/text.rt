@@ -32,7 +32,7 @@ fn end_line(unit: &[u8], text: &mut Vec<u8>) -> Result<(), AllocError>
 /// is empty. The leakage is in millionths, and is printed with six places.
 pub fn write_leak_report(alloc: Global, total: Micro, unit: &Name) -> Result<Vec<u8>, Mem>
     // The text, unless memory runs out.
-    ensures { IfOk result (λ v. v.items ≡ report_text total unit.now) }
+    ensures text { IfOk result (λ v. v.items ≡ report_text total unit.now) }
 {
     let mut text = Vec::from_slice(alloc, b"gate-sizing-report 1\nleakage ")?;
     print_micro(alloc, total, &mut text)?;

@@ -7,8 +7,8 @@ use Rattle.gs_report.specs.declared.error.SumErr.TheVariants as sum
 use Rattle.gs_shelf.specs.Faults.{Counts, Rose, NoneFell}
 use Rattle.gs_shelf.specs.declared.calls.Op.TheVariants.{Fetch}
 use Rattle.gs_verilog.specs.Circuit.{Circuit}
-use Rattle.gs_top.specs.Accepted.{IsDesignOf, IsRefused, RefusalCause}
-use Rattle.gs_top.specs.Design.{Design, onwards, told, library_of, netlist_of, total_in, design_with, design_of, sum_status}
+use Rattle.gs_top.specs.Accepted.{IsDesignOf, IsRefused, LibraryCause, NetlistCause, DesignCause, FirstCause}
+use Rattle.gs_top.specs.Design.{Design, onwards, refused_as, library_of, netlist_of, total_in, design_with, design_of, sum_status}
 use Rattle.gs_top.specs.Job.{Job}
 use Rattle.gs_top.specs.Run.{input_of}
 use Rattle.gs_top.specs.Work.{LoadCauses, LoadRefuses, IsLost, IsTheLibrary, IsTheNetlist, SumRefuses, Makes, MadeOf, MakeRefuses, MakeCauses, IsLostDesign}
@@ -19,10 +19,10 @@ use Rattle.gs_top.specs.declared.status.Status.{Status}
 use Rattle.gs_top.specs.declared.status.Status.TheVariants.{Written, Usage, ReadFault, TooLarge, BadText, BadLibrary, BadDesign, WriteFault, OutOfMemory}
 use Rattle.gs_top.specs.declared.texts.Texts.{Texts}
 
--- an answer that is told has what was answered
-told_ok : {X E : Type 0} (status : E → Status) (r : Result X E) (x : X) → told status r ≡ Ok x → r ≡ Ok x
-told_ok status (Ok y) x h = let same : y ≡ x = cc in ap Ok same
-told_ok status (Err e) x h = cc
+-- an answer that is refused_as has what was answered
+refused_as_ok : {X E : Type 0} (status : E → Status) (r : Result X E) (x : X) → refused_as status r ≡ Ok x → r ≡ Ok x
+refused_as_ok status (Ok y) x h = let same : y ≡ x = cc in ap Ok same
+refused_as_ok status (Err e) x h = cc
 
 same_design : (t u : LeakTable) (c d : Circuit) (m n : ℤ) → u ≡ t → d ≡ c → n ≡ m
     → ◌≡◌ {A = Design} (record { leaks = u; circuit = d; total = n }) (record { leaks = t; circuit = c; total = m })
@@ -33,34 +33,42 @@ same_total r m n e f = cc
 
 -- a refusal that isn't one of reading or writing
 module _ (l n : List ℕ) where
+  nowhere : (s : Status) → (LibraryCause l s → ⊥) → (NetlistCause n s → ⊥) → ((t : LeakTable) (c : Circuit) → DesignCause t c s → ⊥) → IsRefused l n s → MakeRefuses l n s
+  nowhere s f g k h = absurd (ever h.cause)
+    where
+      ever : FirstCause l n s → ⊥
+      ever (inl x) = f x
+      ever (inr (inl x)) = g x.2
+      ever (inr (inr x)) = k x.0 x.1 x.4
+
   of_refused : (s : Status) → IsRefused l n s → MakeRefuses l n s
-  of_refused (Written instances) h = absurd h.cause
-  of_refused Usage h = absurd h.cause
-  of_refused (ReadFault file) h = absurd h.cause
+  of_refused (Written instances) h = nowhere (Written instances) (λ x. x) (λ x. x) (λ t c x. x) h
+  of_refused Usage h = nowhere Usage (λ x. x) (λ x. x) (λ t c x. x) h
+  of_refused (ReadFault file) h = nowhere (ReadFault file) (λ x. x) (λ x. x) (λ t c x. x) h
   of_refused (TooLarge file) h = h
   of_refused (BadText file why place) h = h
   of_refused (BadLibrary e) h = h
   of_refused (BadDesign e) h = h
-  of_refused (WriteFault file) h = absurd h.cause
+  of_refused (WriteFault file) h = nowhere (WriteFault file) (λ x. x) (λ x. x) (λ t c x. x) h
   of_refused OutOfMemory h = tt
 
   -- the library isn't read
-  pub library_lost : (s : Status) → LoadRefuses Lib (library_of l) (RefusalCause l n) s → MakeRefuses l n s
+  pub library_lost : (s : Status) → LoadRefuses Lib (library_of l) (LibraryCause l) s → MakeRefuses l n s
   library_lost s (inl h) = subst (MakeRefuses l n) (sym h) tt
   library_lost s (inr (inl h)) = subst (MakeRefuses l n) (sym h) tt
   library_lost s (inr (inr h)) =
-      of_refused s (record { first = ap (λ r. onwards r (λ t. onwards (netlist_of n) (design_with t))) h.0; cause = h.1 })
+      of_refused s (record { cause = inl h.1; first = ap (λ r. onwards r (λ t. onwards (netlist_of n) (design_with t))) h.0 })
 
   module _ (t : LeakTable) (lib : IsTheLibrary l t) where
     with_library : design_of l n ≡ onwards (netlist_of n) (design_with t)
     with_library = ap (λ r. onwards r (λ u. onwards (netlist_of n) (design_with u))) lib.accepted
 
     -- the netlist isn't read
-    pub netlist_lost : (s : Status) → LoadRefuses Verilog (netlist_of n) (RefusalCause l n) s → MakeRefuses l n s
-    netlist_lost s (inl h) = subst (MakeRefuses l n) (sym h) (t, lib.accepted)
+    pub netlist_lost : (s : Status) → LoadRefuses Verilog (netlist_of n) (NetlistCause n) s → MakeRefuses l n s
+    netlist_lost s (inl h) = subst (MakeRefuses l n) (sym h) (t, lib.is, lib.accepted)
     netlist_lost s (inr (inl h)) = subst (MakeRefuses l n) (sym h) tt
     netlist_lost s (inr (inr h)) =
-        of_refused s (record { first = with_library ∙ ap (λ r. onwards r (design_with t)) h.0; cause = h.1 })
+        of_refused s (record { cause = inr (inl (t, lib.is, h.1)); first = with_library ∙ ap (λ r. onwards r (design_with t)) h.0 })
 
     module _ (c : Circuit) (net : IsTheNetlist n c) where
       with_both : design_of l n ≡ design_with t c
@@ -72,7 +80,7 @@ module _ (l n : List ℕ) where
       -- the texts are those of the one design
       pub made_of : (texts : Texts) → Makes t c texts → MadeOf l n texts
       made_of texts made =
-          let total : sum_of t.cells c.insts ≡ Ok made.total = told_ok (sum_status c.insts) (sum_of t.cells c.insts) made.total made.is_total in
+          let total : sum_of t.cells c.insts ≡ Ok made.total = refused_as_ok (sum_status c.insts) (sum_of t.cells c.insts) made.total made.is_total in
           record {
             design = record { leaks = t; circuit = c; total = made.total };
             is = record {
@@ -90,16 +98,16 @@ module _ (l n : List ℕ) where
           }
 
       refused_for : (e : LinkErr) → total_in t c.insts ≡ Err (BadDesign e) → MakeRefuses l n (BadDesign e)
-      refused_for e h = record { first = of_total (Err (BadDesign e)) h; cause = (t, c, lib.is, net.is, h) }
+      refused_for e h = record { cause = inr (inr (t, c, lib.is, net.is, h)); first = of_total (Err (BadDesign e)) h }
 
-      by_sum : (r : Result ℤ SumErr) (s : Status) → sum_of t.cells c.insts ≡ r → told (sum_status c.insts) r ≡ Err s → MakeRefuses l n s
+      by_sum : (r : Result ℤ SumErr) (s : Status) → sum_of t.cells c.insts ≡ r → refused_as (sum_status c.insts) r ≡ Err s → MakeRefuses l n s
       by_sum (Ok m) s e h = absurd cc
       by_sum (Err (sum.UnknownCell k)) s e h =
           let is : sum_status c.insts (sum.UnknownCell k) ≡ s = cc in
-          subst (MakeRefuses l n) is (refused_for _ (ap (told (sum_status c.insts)) e))
+          subst (MakeRefuses l n) is (refused_for _ (ap (refused_as (sum_status c.insts)) e))
       by_sum (Err (sum.TooMany count)) s e h =
           let is : sum_status c.insts (sum.TooMany count) ≡ s = cc in
-          subst (MakeRefuses l n) is (refused_for _ (ap (told (sum_status c.insts)) e))
+          subst (MakeRefuses l n) is (refused_for _ (ap (refused_as (sum_status c.insts)) e))
 
       -- there is no sum
       pub sum_lost : (s : Status) → SumRefuses (total_in t c.insts) s → MakeRefuses l n s
@@ -113,7 +121,7 @@ module _ (l n : List ℕ) where
           subst (λ u. sum_of u.cells c.insts ≡ Ok d.total) u_is (subst (λ x. sum_of d.leaks.cells x.insts ≡ Ok d.total) d_is h.total)
 
       refused_not : (s : Status) (m : ℤ) → sum_of t.cells c.insts ≡ Ok m → total_in t c.insts ≡ Err s → ⊥
-      refused_not s m e h = let there : total_in t c.insts ≡ Ok m = ap (told (sum_status c.insts)) e in cc
+      refused_not s m e h = let there : total_in t c.insts ≡ Ok m = ap (refused_as (sum_status c.insts)) e in cc
 
       -- of a design there is a sum
       pub sum_only_lost : (d : Design) → IsDesignOf l n d → (s : Status) → SumRefuses (total_in t c.insts) s → IsLostDesign s

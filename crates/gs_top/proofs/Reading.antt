@@ -9,8 +9,8 @@ use Rattle.gs_verilog.specs.Machine as netlist
 use Rattle.gs_verilog.specs.Refusal as netlist_refusal
 use Rattle.gs_verilog.specs.declared.error.VerilogErr.{VerilogErr}
 use Rattle.gs_verilog.specs.declared.error.VerilogErr.TheVariants as verilog
-use Rattle.gs_top.specs.Accepted.{IsLibraryOf, RefusalCause}
-use Rattle.gs_top.specs.Design.{limited, told, onwards, tree_of, leaks_in, library_of, netlist_of, verilog_status}
+use Rattle.gs_top.specs.Accepted.{IsLibraryOf, LibraryCause, NetlistCause}
+use Rattle.gs_top.specs.Design.{limited, refused_as, onwards, tree_of, leaks_in, library_of, netlist_of, verilog_status}
 use Rattle.gs_top.specs.Work.{FetchRefuses, LoadCauses, Refuses, LoadRefuses, IsLost, IsTheTree, IsTheTable, IsTheLibrary, LeaksCause}
 use Rattle.gs_top.specs.declared.status.Input.{Input}
 use Rattle.gs_top.specs.declared.status.Input.TheVariants.{Lib, Verilog}
@@ -33,18 +33,14 @@ small file bytes read h = rw (le-ltb (2 ^ 28) (length bytes) h) refl
 pub large : {X : Type 0} (file : Input) (bytes : List ℕ) (read : Result X Status) → 2 ^ 28 < length bytes → limited file bytes read ≡ Err (TooLarge file)
 large file bytes read h = rw (lt-ltb (2 ^ 28) (length bytes) h) refl
 
-same_refusal : {X : Type 0} (made read : Result X Status) (Cause : Status → Type 0) (s : Status) → made ≡ read → Refuses read Cause s → Refuses made Cause s
-same_refusal made read Cause s e (inl h) = inl h
-same_refusal made read Cause s e (inr h) = inr (e ∙ h.0, h.1)
-
 -- the library's text
 module _ (bytes : List ℕ) (few : length bytes ≤ 2 ^ 28) where
   of_tree : (r : Result Node Status) → tree_of bytes ≡ r → library_of bytes ≡ onwards r leaks_in
   of_tree r e = small Lib bytes (onwards (tree_of bytes) leaks_in) few ∙ ap (λ x. onwards x leaks_in) e
 
-  pub library_unread : (n : List ℕ) (s : Status) → Refuses (tree_of bytes) (RefusalCause bytes n) s → Refuses (library_of bytes) (RefusalCause bytes n) s
-  library_unread n s (inl h) = inl h
-  library_unread n s (inr h) = inr (of_tree (Err s) h.0, h.1)
+  pub library_unread : (s : Status) → Refuses (tree_of bytes) (LibraryCause bytes) s → Refuses (library_of bytes) (LibraryCause bytes) s
+  library_unread s (inl h) = inl h
+  library_unread s (inr h) = inr (of_tree (Err s) h.0, h.1)
 
   module _ (root : Node) (tree : IsTheTree bytes root) where
     pub library_read : (t : LeakTable) → IsTheTable root t → IsTheLibrary bytes t
@@ -54,53 +50,65 @@ module _ (bytes : List ℕ) (few : length bytes ≤ 2 ^ 28) where
       accepted = of_tree (Ok root) tree.accepted ∙ table.accepted;
     }
 
-    cause_of : (n : List ℕ) (s : Status) → LeaksCause root s → RefusalCause bytes n s
-    cause_of n (Written instances) h = absurd h
-    cause_of n Usage h = absurd h
-    cause_of n (ReadFault file) h = absurd h
-    cause_of n (TooLarge file) h = absurd h
-    cause_of n (BadText file why place) h = absurd h
-    cause_of n (BadLibrary e) h = (h.0, (root, tree.is, h.1))
-    cause_of n (BadDesign e) h = absurd h
-    cause_of n (WriteFault file) h = absurd h
-    cause_of n OutOfMemory h = absurd h
+    cause_of : (s : Status) → LeaksCause root s → LibraryCause bytes s
+    cause_of (Written instances) h = absurd h
+    cause_of Usage h = absurd h
+    cause_of (ReadFault file) h = absurd h
+    cause_of (TooLarge file) h = absurd h
+    cause_of (BadText file why place) h = absurd h
+    cause_of (BadLibrary e) h = (few, h.0, (root, tree.is, h.1))
+    cause_of (BadDesign e) h = absurd h
+    cause_of (WriteFault file) h = absurd h
+    cause_of OutOfMemory h = absurd h
 
-    pub library_refused : (n : List ℕ) (s : Status) → Refuses (leaks_in root) (LeaksCause root) s → Refuses (library_of bytes) (RefusalCause bytes n) s
-    library_refused n s (inl h) = inl h
-    library_refused n s (inr h) = inr (of_tree (Ok root) tree.accepted ∙ h.0, cause_of n s h.1)
+    pub library_refused : (s : Status) → Refuses (leaks_in root) (LeaksCause root) s → Refuses (library_of bytes) (LibraryCause bytes) s
+    library_refused s (inl h) = inl h
+    library_refused s (inr h) = inr (of_tree (Ok root) tree.accepted ∙ h.0, cause_of s h.1)
 
     pub leaks_too : (t : LeakTable) → IsLibraryOf bytes t → LeaksOf root t
     leaks_too t h = subst (λ r. LeaksOf r t) (tree.one h.root h.is_root) h.leaks
 
 -- the netlist's text
-module _ (l n : List ℕ) where
-  told_netlist : (e : VerilogErr) → netlist.outcome n ≡ Err e → told verilog_status (netlist.outcome n) ≡ Err (verilog_status e)
-  told_netlist e h = ap (told verilog_status) h
+module _ (n : List ℕ) (few : length n ≤ 2 ^ 28) where
+  netlist_refused_as : (e : VerilogErr) → netlist.outcome n ≡ Err e → netlist_of n ≡ Err (verilog_status e)
+  netlist_refused_as e h = small Verilog n (refused_as verilog_status (netlist.outcome n)) few ∙ ap (refused_as verilog_status) h
 
-  netlist_refuses : (e : VerilogErr) → netlist.Fails e (netlist.outcome n) → netlist_refusal.HasCause n e → Refuses (told verilog_status (netlist.outcome n)) (RefusalCause l n) (verilog_status e)
+  netlist_refuses : (e : VerilogErr) → netlist.Fails e (netlist.outcome n) → netlist_refusal.HasCause n e → Refuses (netlist_of n) (NetlistCause n) (verilog_status e)
   netlist_refuses e (inl h) cause = inl (ap verilog_status h)
-  netlist_refuses (verilog.NotBuilt at) (inr h) cause = inr (told_netlist (verilog.NotBuilt at) h, cause)
-  netlist_refuses (verilog.BadPiece i) (inr h) cause = inr (told_netlist (verilog.BadPiece i) h, cause)
-  netlist_refuses (verilog.TwoNames i) (inr h) cause = inr (told_netlist (verilog.TwoNames i) h, cause)
-  netlist_refuses (verilog.NoEnd i) (inr h) cause = inr (told_netlist (verilog.NoEnd i) h, cause)
+  netlist_refuses (verilog.NotBuilt at) (inr h) cause = inr (netlist_refused_as (verilog.NotBuilt at) h, (few, cause))
+  netlist_refuses (verilog.BadPiece i) (inr h) cause = inr (netlist_refused_as (verilog.BadPiece i) h, (few, cause))
+  netlist_refuses (verilog.TwoNames i) (inr h) cause = inr (netlist_refused_as (verilog.TwoNames i) h, (few, cause))
+  netlist_refuses (verilog.NoEnd i) (inr h) cause = inr (netlist_refused_as (verilog.NoEnd i) h, (few, cause))
   netlist_refuses verilog.Mem (inr h) cause = inl refl
 
-  pub netlist_unread : length n ≤ 2 ^ 28 → (e : VerilogErr) (s : Status) → s ≡ verilog_status e → netlist.Fails e (netlist.outcome n) → netlist_refusal.HasCause n e → Refuses (netlist_of n) (RefusalCause l n) s
-  netlist_unread few e s is h cause =
-      same_refusal _ _ (RefusalCause l n) s (small Verilog n _ few) (subst (Refuses (told verilog_status (netlist.outcome n)) (RefusalCause l n)) (sym is) (netlist_refuses e h cause))
+  pub netlist_unread : (e : VerilogErr) (s : Status) → s ≡ verilog_status e → netlist.Fails e (netlist.outcome n) → netlist_refusal.HasCause n e → Refuses (netlist_of n) (NetlistCause n) s
+  netlist_unread e s is h cause = subst (Refuses (netlist_of n) (NetlistCause n)) (sym is) (netlist_refuses e h cause)
 
 -- what was not read, on every shelf
-pub refusal_causes : {X : Type 0} (made : Result X Status) (l n : List ℕ) (file : Input) (before now : ℕ) (s : Status) → Refuses made (RefusalCause l n) s → LoadCauses file before now s
-refusal_causes made l n file before now s (inl h) = subst (LoadCauses file before now) (sym h) tt
-refusal_causes made l n file before now (Written instances) (inr h) = absurd h.1
-refusal_causes made l n file before now Usage (inr h) = absurd h.1
-refusal_causes made l n file before now (ReadFault f) (inr h) = absurd h.1
-refusal_causes made l n file before now (TooLarge f) (inr h) = tt
-refusal_causes made l n file before now (BadText f why place) (inr h) = tt
-refusal_causes made l n file before now (BadLibrary e) (inr h) = h.1.0
-refusal_causes made l n file before now (BadDesign e) (inr h) = tt
-refusal_causes made l n file before now (WriteFault f) (inr h) = absurd h.1
-refusal_causes made l n file before now OutOfMemory (inr h) = absurd h.1
+module _ {X : Type 0} (made : Result X Status) (file : Input) (before now : ℕ) where
+  pub library_causes : (l : List ℕ) (s : Status) → Refuses made (LibraryCause l) s → LoadCauses file before now s
+  library_causes l s (inl h) = subst (LoadCauses file before now) (sym h) tt
+  library_causes l (Written instances) (inr h) = absurd h.1
+  library_causes l Usage (inr h) = absurd h.1
+  library_causes l (ReadFault f) (inr h) = absurd h.1
+  library_causes l (TooLarge f) (inr h) = tt
+  library_causes l (BadText f why place) (inr h) = tt
+  library_causes l (BadLibrary e) (inr h) = h.1.1
+  library_causes l (BadDesign e) (inr h) = absurd h.1
+  library_causes l (WriteFault f) (inr h) = absurd h.1
+  library_causes l OutOfMemory (inr h) = absurd h.1
+
+  pub netlist_causes : (n : List ℕ) (s : Status) → Refuses made (NetlistCause n) s → LoadCauses file before now s
+  netlist_causes n s (inl h) = subst (LoadCauses file before now) (sym h) tt
+  netlist_causes n (Written instances) (inr h) = absurd h.1
+  netlist_causes n Usage (inr h) = absurd h.1
+  netlist_causes n (ReadFault f) (inr h) = absurd h.1
+  netlist_causes n (TooLarge f) (inr h) = tt
+  netlist_causes n (BadText f why place) (inr h) = tt
+  netlist_causes n (BadLibrary e) (inr h) = absurd h.1
+  netlist_causes n (BadDesign e) (inr h) = absurd h.1
+  netlist_causes n (WriteFault f) (inr h) = absurd h.1
+  netlist_causes n OutOfMemory (inr h) = absurd h.1
 
 -- a file that was not fetched
 module _ {X : Type 0} (file : Input) (bytes : List ℕ) (read : Result X Status) (Cause : Status → Type 0) (cause : 2 ^ 28 < length bytes → Cause (TooLarge file)) where

@@ -1,5 +1,5 @@
 -- What an accepted design is: the relations that its bytes stand in, and the cause of each refusal.
-use Rattle.std.specs.Prelude.{◌≡◌, ◌≢◌, ℕ, ◌^◌, ◌<◌, ◌≤◌, List, length, Ok, Err}
+use Rattle.std.specs.Prelude.{◌≡◌, ◌≢◌, ℕ, ◌^◌, ◌<◌, ◌≤◌, ◌⊎◌, List, length, Ok, Err}
 use Rattle.gs_lib.specs.Cells.{LeaksOf}
 use Rattle.gs_lib.specs.Refusal as lib
 use Rattle.gs_lib.specs.Table.{LeakTable}
@@ -43,39 +43,54 @@ pub record IsTheDesign (library netlist : List ℕ) (d : Design) : Type 0 where
   pub one : (e : Design) → IsDesignOf library netlist e → e ≡ d
   pub accepted : design_of library netlist ≡ Ok d
 
--- the cause of the refusal of a text, from its reader
-abbrev pub TextCause : (library netlist : List ℕ) → Input → TextWhy → ℕ → Type 0
-TextCause l n Lib OpenString at = tree.HasCause l (tree_text.OpenString at)
-TextCause l n Lib OpenComment at = tree.HasCause l (tree_text.OpenComment at)
-TextCause l n Lib TooDeep i = tree.HasCause l (tree_text.TooDeep i)
-TextCause l n Lib BadPiece i = tree.HasCause l (tree_text.BadPiece i)
-TextCause l n Lib _ i = ⊥
-TextCause l n Verilog NotBuilt at = netlist.HasCause n (verilog.NotBuilt at)
-TextCause l n Verilog BadPiece i = netlist.HasCause n (verilog.BadPiece i)
-TextCause l n Verilog TwoNames i = netlist.HasCause n (verilog.TwoNames i)
-TextCause l n Verilog NoEnd i = netlist.HasCause n (verilog.NoEnd i)
-TextCause l n Verilog _ i = ⊥
+-- the cause of the refusal of a library's text, from its reader
+abbrev pub LibraryTextCause : List ℕ → TextWhy → ℕ → Type 0
+LibraryTextCause l OpenString at = tree.HasCause l (tree_text.OpenString at)
+LibraryTextCause l OpenComment at = tree.HasCause l (tree_text.OpenComment at)
+LibraryTextCause l TooDeep i = tree.HasCause l (tree_text.TooDeep i)
+LibraryTextCause l BadPiece i = tree.HasCause l (tree_text.BadPiece i)
+LibraryTextCause l _ i = ⊥
 
--- the bytes of a file
-abbrev pub bytes_of : (library netlist : List ℕ) → Input → List ℕ
-bytes_of l n Lib = l
-bytes_of l n Verilog = n
+-- the cause of the refusal of a library
+abbrev pub LibraryCause : List ℕ → Status → Type 0
+LibraryCause l (TooLarge Lib) = 2 ^ 28 < length l
+LibraryCause l (BadText Lib why place) = (length l ≤ 2 ^ 28) × LibraryTextCause l why place
+LibraryCause l (BadLibrary e) =
+    (length l ≤ 2 ^ 28) × (e ≢ lib_err.Mem) × ((root : Node) × tree.IsLiberty l root × lib.HasCause root e)
+LibraryCause l _ = ⊥
 
--- the cause of each refusal that the bytes decide
-abbrev pub RefusalCause : (library netlist : List ℕ) → Status → Type 0
-RefusalCause l n (TooLarge file) = 2 ^ 28 < length (bytes_of l n file)
-RefusalCause l n (BadText file why place) = TextCause l n file why place
-RefusalCause l n (BadLibrary e) = (e ≢ lib_err.Mem) × ((root : Node) × tree.IsLiberty l root × lib.HasCause root e)
-RefusalCause l n (BadDesign e) =
-    (t : LeakTable) × (c : Circuit) × IsLibraryOf l t × IsNetlistOf n c × (total_in t c.insts ≡ Err (BadDesign e))
-RefusalCause l n _ = ⊥
+abbrev pub NetlistTextCause : List ℕ → TextWhy → ℕ → Type 0
+NetlistTextCause n NotBuilt at = netlist.HasCause n (verilog.NotBuilt at)
+NetlistTextCause n BadPiece i = netlist.HasCause n (verilog.BadPiece i)
+NetlistTextCause n TwoNames i = netlist.HasCause n (verilog.TwoNames i)
+NetlistTextCause n NoEnd i = netlist.HasCause n (verilog.NoEnd i)
+NetlistTextCause n _ i = ⊥
 
--- the bytes are refused so, the first refusal in the order of work, and for this cause
+-- the cause of the refusal of a netlist
+abbrev pub NetlistCause : List ℕ → Status → Type 0
+NetlistCause n (TooLarge Verilog) = 2 ^ 28 < length n
+NetlistCause n (BadText Verilog why place) = (length n ≤ 2 ^ 28) × NetlistTextCause n why place
+NetlistCause n _ = ⊥
+
+-- the cause of the refusal of a design
+abbrev pub DesignCause : LeakTable → Circuit → Status → Type 0
+DesignCause t c (BadDesign e) = total_in t c.insts ≡ Err (BadDesign e)
+DesignCause t c _ = ⊥
+
+-- the first refusal in the order of work: the library's; or the netlist's, where the library is accepted; or the design's, where
+-- both are
+abbrev pub FirstCause : (library netlist : List ℕ) → Status → Type 0
+FirstCause l n s =
+    LibraryCause l s
+    ⊎ (((t : LeakTable) × IsLibraryOf l t × NetlistCause n s)
+    ⊎ ((t : LeakTable) × (c : Circuit) × IsLibraryOf l t × IsNetlistOf n c × DesignCause t c s))
+
+-- the bytes are refused so, first of all
 pub record IsRefused (library netlist : List ℕ) (s : Status) : Type 0 where
+  pub cause : FirstCause library netlist s
   pub first : design_of library netlist ≡ Err s
-  pub cause : RefusalCause library netlist s
 
--- nothing is refused before the file is read: of the library nothing, of the netlist the library
+-- what comes before the file in the order of work is accepted: before the library nothing, before the netlist the library
 abbrev pub NothingBefore : Input → (library : List ℕ) → Type 0
 NothingBefore Lib l = Unit {0}
-NothingBefore Verilog l = (t : LeakTable) × (library_of l ≡ Ok t)
+NothingBefore Verilog l = (t : LeakTable) × IsLibraryOf l t × (library_of l ≡ Ok t)

@@ -68,29 +68,29 @@ abbrev pub sum_status : List RawInst → SumErr → Status
 sum_status insts (sum.UnknownCell k) = BadDesign (UnknownCell (inst_name_at insts k))
 sum_status insts (sum.TooMany n) = BadDesign (TooMany Instances n)
 
--- an answer whose refusal is told so
-abbrev pub told : {X E : Type 0} → (E → Status) → Result X E → Result X Status
-told status (Ok x) = Ok x
-told status (Err e) = Err (status e)
+-- an answer, with its refusal as a status
+abbrev pub refused_as : {X E : Type 0} → (E → Status) → Result X E → Result X Status
+refused_as status (Ok x) = Ok x
+refused_as status (Err e) = Err (status e)
 
 -- a file of more bytes than the limit is refused before it is read
 abbrev pub limited : {X : Type 0} → Input → List ℕ → Result X Status → Result X Status
 limited file bytes read = if nat_lt (2 ^ 28) (length bytes) then Err (TooLarge file) else read
 
 abbrev pub tree_of : List ℕ → Result Node Status
-tree_of bytes = told tree_status (tree.outcome bytes)
+tree_of bytes = refused_as tree_status (tree.outcome bytes)
 
 abbrev pub leaks_in : Node → Result LeakTable Status
-leaks_in root = told lib_status (leaks_of root)
+leaks_in root = refused_as lib_status (leaks_of root)
 
 abbrev pub library_of : List ℕ → Result LeakTable Status
 library_of bytes = limited Lib bytes (onwards (tree_of bytes) leaks_in)
 
 abbrev pub netlist_of : List ℕ → Result Circuit Status
-netlist_of bytes = limited Verilog bytes (told verilog_status (netlist.outcome bytes))
+netlist_of bytes = limited Verilog bytes (refused_as verilog_status (netlist.outcome bytes))
 
 abbrev pub total_in : LeakTable → List RawInst → Result ℤ Status
-total_in t insts = told (sum_status insts) (sum_of t.cells insts)
+total_in t insts = refused_as (sum_status insts) (sum_of t.cells insts)
 
 abbrev pub design_with : LeakTable → Circuit → Result Design Status
 design_with t c = onwards (total_in t c.insts) (λ m. Ok (record { leaks = t; circuit = c; total = m }))

@@ -18,8 +18,8 @@ use Rattle.gs_top.specs.Line.{line_of}
 use Rattle.gs_top.specs.Texts.{sizes_text, report_text}
 
 -- no file but the two that the job writes changed
-abbrev pub InputsStay : Job → Files → Files → Type 0
-InputsStay job old new = (other : List ℕ) → other ≢ job.sizes → other ≢ job.report → new other ≡ old other
+abbrev pub OtherFilesStay : Job → Files → Files → Type 0
+OtherFilesStay job old new = (other : List ℕ) → other ≢ job.sizes → other ≢ job.report → new other ≡ old other
 
 -- the sizes file holds what it held, or a prefix of its text, and no other file changed
 pub record SizesBegun (job : Job) (old new : Files) (sizes : List ℕ) : Type 0 where
@@ -30,13 +30,13 @@ pub record SizesBegun (job : Job) (old new : Files) (sizes : List ℕ) : Type 0 
 pub record ReportBegun (job : Job) (old new : Files) (sizes report : List ℕ) : Type 0 where
   pub sizes_hold : new job.sizes ≡ Some sizes
   pub part : HoldsPart job.report report old new
-  pub others : InputsStay job old new
+  pub others : OtherFilesStay job old new
 
 -- both files hold their texts, and no other file changed
 pub record BothHold (job : Job) (old new : Files) (sizes report : List ℕ) : Type 0 where
   pub sizes_hold : new job.sizes ≡ Some sizes
   pub report_holds : new job.report ≡ Some report
-  pub others : InputsStay job old new
+  pub others : OtherFilesStay job old new
 
 -- what the files hold where the storing of these texts ended so: those stored before hold their whole texts, and later ones
 -- what they held

@@ -1,5 +1,5 @@
 //! Reading the library.
-ghost use Rattle.std.specs.Prelude.{◌≡◌, ℕ, ◌^◌, ◌≤◌, IfOk, IfErr, List, length};
+ghost use Rattle.std.specs.Prelude.{◌≡◌, ◌^◌, ◌≤◌, IfOk, IfErr, length};
 ghost use Rattle.gs_lib.specs.Cells.{LeaksOf};
 ghost use Rattle.gs_lib.specs.Table.{LeakTable};
 ghost use Rattle.gs_libtree.specs.Refusal.{IsLiberty};
@@ -7,7 +7,7 @@ ghost use Rattle.gs_libtree.specs.declared.tree.Node.{Node};
 ghost use Rattle.gs_shelf.specs.Faults.{NoneFell};
 ghost use Rattle.gs_shelf.specs.Files.{content, AllStay};
 ghost use Rattle.gs_shelf.specs.declared.calls.Op.TheVariants.{Fetch};
-ghost use Rattle.gs_top.specs.Accepted.{IsLibraryOf, RefusalCause};
+ghost use Rattle.gs_top.specs.Accepted.{IsLibraryOf, LibraryCause};
 ghost use Rattle.gs_top.specs.Design.{leaks_in, lib_status, library_of, tree_of, tree_status};
 ghost use Rattle.gs_top.specs.Work.{IsLost, IsTheLibrary, IsTheTable, IsTheTree, LeaksCause, LoadCauses, LoadRefuses, Refuses};
 ghost use Rattle.gs_top.specs.declared.status.Input.{Input};
@@ -53,7 +53,7 @@ fn lib_status(error: LibErr) -> Status
 fn read_text(alloc: Global, bytes: &[u8]) -> Result<Group, Status>
     requires { length bytes.now ≤ 2 ^ 28 }
     ensures ok { IfOk result (λ root. IsTheTree bytes.now root) }
-    ensures err { (netlist : List ℕ) → IfErr result (Refuses (tree_of bytes.now) (RefusalCause bytes.now netlist)) }
+    ensures err { IfErr result (Refuses (tree_of bytes.now) (LibraryCause bytes.now)) }
     ensures complete { (root : Node) → IsLiberty bytes.now root → IfErr result (λ s. s ≡ Status.OutOfMemory) }
 {
     match read_tree(alloc, bytes) {
@@ -78,7 +78,7 @@ fn read_cells(alloc: Global, root: &Group) -> Result<Leaks, Status>
 fn read_library(alloc: Global, bytes: &[u8]) -> Result<Leaks, Status>
     requires { length bytes.now ≤ 2 ^ 28 }
     ensures ok { IfOk result (λ t. IsTheLibrary bytes.now t) }
-    ensures err { (netlist : List ℕ) → IfErr result (Refuses (library_of bytes.now) (RefusalCause bytes.now netlist)) }
+    ensures err { IfErr result (Refuses (library_of bytes.now) (LibraryCause bytes.now)) }
     ensures complete { (t : LeakTable) → IsLibraryOf bytes.now t → IfErr result (λ s. s ≡ Status.OutOfMemory) }
 {
     match read_text(alloc, bytes) {
@@ -94,7 +94,7 @@ pub(crate) fn load_library<H: Shelf>(
     name: &str,
 ) -> Result<Leaks, Status>
     ensures ok { H.tells → IfOk result (λ t. IsTheLibrary (content (H.files shelf.old) name.now) t) }
-    ensures err { H.tells → (netlist : List ℕ) → IfErr result (LoadRefuses Input.Lib (library_of (content (H.files shelf.old) name.now)) (RefusalCause (content (H.files shelf.old) name.now) netlist)) }
+    ensures err { H.tells → IfErr result (LoadRefuses Input.Lib (library_of (content (H.files shelf.old) name.now)) (LibraryCause (content (H.files shelf.old) name.now))) }
     ensures complete { H.tells → (t : LeakTable) → IsLibraryOf (content (H.files shelf.old) name.now) t → IfErr result (IsLost Input.Lib) }
     ensures cause { IfErr result (LoadCauses Input.Lib (H.faults shelf.old Fetch name.now) (H.faults shelf.new Fetch name.now)) }
     ensures stay { AllStay (H.files shelf.old) (H.files shelf.new) }

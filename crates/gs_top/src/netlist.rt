@@ -1,10 +1,10 @@
 //! Reading the netlist.
-ghost use Rattle.std.specs.Prelude.{◌≡◌, ℕ, ◌^◌, ◌≤◌, IfOk, IfErr, List, length};
+ghost use Rattle.std.specs.Prelude.{◌≡◌, ◌^◌, ◌≤◌, IfOk, IfErr, length};
 ghost use Rattle.gs_shelf.specs.Faults.{NoneFell};
 ghost use Rattle.gs_shelf.specs.Files.{content, AllStay};
 ghost use Rattle.gs_shelf.specs.declared.calls.Op.TheVariants.{Fetch};
 ghost use Rattle.gs_verilog.specs.Circuit.{Circuit};
-ghost use Rattle.gs_top.specs.Accepted.{IsNetlistOf, RefusalCause};
+ghost use Rattle.gs_top.specs.Accepted.{IsNetlistOf, NetlistCause};
 ghost use Rattle.gs_top.specs.Design.{netlist_of, verilog_status};
 ghost use Rattle.gs_top.specs.Work.{IsLost, IsTheNetlist, LoadCauses, LoadRefuses, Refuses};
 ghost use Rattle.gs_top.specs.declared.status.Input.{Input};
@@ -37,7 +37,7 @@ fn read_text(alloc: Global, bytes: &[u8]) -> Result<Netlist, Status>
     requires { length bytes.now ≤ 2 ^ 28 }
     ensures ok { IfOk result (λ c. IsTheNetlist bytes.now c) }
     ensures few { IfOk result (λ c. length c.insts ≤ 2 ^ 28) }
-    ensures err { (library : List ℕ) → IfErr result (Refuses (netlist_of bytes.now) (RefusalCause library bytes.now)) }
+    ensures err { IfErr result (Refuses (netlist_of bytes.now) (NetlistCause bytes.now)) }
     ensures complete { (c : Circuit) → IsNetlistOf bytes.now c → IfErr result (λ s. s ≡ Status.OutOfMemory) }
 {
     match read_netlist(alloc, bytes) {
@@ -54,7 +54,7 @@ pub(crate) fn load_netlist<H: Shelf>(
 ) -> Result<Netlist, Status>
     ensures ok { H.tells → IfOk result (λ c. IsTheNetlist (content (H.files shelf.old) name.now) c) }
     ensures few { IfOk result (λ c. length c.insts ≤ 2 ^ 28) }
-    ensures err { H.tells → (library : List ℕ) → IfErr result (LoadRefuses Input.Verilog (netlist_of (content (H.files shelf.old) name.now)) (RefusalCause library (content (H.files shelf.old) name.now))) }
+    ensures err { H.tells → IfErr result (LoadRefuses Input.Verilog (netlist_of (content (H.files shelf.old) name.now)) (NetlistCause (content (H.files shelf.old) name.now))) }
     ensures complete { H.tells → (c : Circuit) → IsNetlistOf (content (H.files shelf.old) name.now) c → IfErr result (IsLost Input.Verilog) }
     ensures cause { IfErr result (LoadCauses Input.Verilog (H.faults shelf.old Fetch name.now) (H.faults shelf.new Fetch name.now)) }
     ensures stay { AllStay (H.files shelf.old) (H.files shelf.new) }

@@ -70,6 +70,9 @@ fn act<H: Shelf>(alloc: Global, words: &Words, shelf: &mut H) -> Status
 }
 
 /// Runs the command that the words name: reads its files through the shelf, stores what it makes, says one line.
+///
+/// The words come first, then the library, the netlist and their design; all texts are made before the first store, the sizes are
+/// stored before the report, and the line is said last. The first refusal ends the work. The shelf stays the caller's.
 pub fn run<H: Shelf>(alloc: Global, words: &Words, shelf: &mut H) -> Status
     // What the files hold after each status, on a shelf that tells.
     ensures leaves { H.tells → Leaves words.now (H.files shelf.old) (H.files shelf.new) result }
@@ -77,11 +80,12 @@ pub fn run<H: Shelf>(alloc: Global, words: &Words, shelf: &mut H) -> Status
     ensures said { H.tells → Says words.now (H.files shelf.old) (H.files shelf.new) (H.faults shelf.old) (H.faults shelf.new) (H.said shelf.old) (H.said shelf.new) result }
     // What stands behind each status, on every shelf.
     ensures cause { Causes words.now (H.faults shelf.old) (H.faults shelf.new) result }
-    // Words of the form, a library and a netlist in their grammars and limits whose cells the library has, and no fault: success, or
-    // want of memory.
+    // Words of the form, a library and a netlist in their grammars and limits, each instance's cell in the library, fewer than 2^21
+    // instances, and no fault: success, or want of memory.
     ensures complete { H.tells → IsAccepted words.now (H.files shelf.old) → NoneRose (H.faults shelf.old) (H.faults shelf.new) → IsDone result }
     // The first refusal that the words and the bytes decide is the answer, but for a fault of reading or want of memory.
     ensures refused { H.tells → (refusal : Status) → first_refusal words.now (H.files shelf.old) ≡ Some refusal → AnswersRefusal refusal result }
+    // No count of faults falls.
     ensures later { NoneFell (H.faults shelf.old) (H.faults shelf.new) }
 {
     let status = act(alloc, words, shelf);

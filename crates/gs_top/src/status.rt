@@ -44,11 +44,12 @@ pub enum TextWhy {
     NoEnd,
 }
 
-/// What there are too many of.
+/// What there are too many of. Only instances are counted so far.
 #[derive(Clone, Copy, Debug, PartialEq, Eq)]
 pub enum Counted {
     Instances,
     Nets,
+    /// Connected pins.
     Pins,
 }
 
@@ -57,7 +58,7 @@ pub enum Counted {
 pub enum LinkErr {
     /// The instance `by` names a cell that the library lacks. It is the first such instance.
     UnknownCell { by: Name },
-    /// There are so many, which is too many.
+    /// The library has the cell of every instance, and there are `count` of these: `2^21` instances or more.
     TooMany { what: Counted, count: u64 },
 }
 
@@ -68,7 +69,7 @@ pub enum Status {
     Written {
         instances: u32,
     },
-    /// The words are not of the form.
+    /// The words make no job: they are not of the form, a file's name is empty, or two names are the same.
     Usage,
     /// The file could not be read.
     ReadFault {
@@ -79,7 +80,7 @@ pub enum Status {
         file: Input,
     },
     /// The file's text is refused. `place` counts bytes from 0 for `NotBuilt`, `OpenString` and `OpenComment`, pieces from 0 for
-    /// the others.
+    /// the others; it is the number of pieces where the text ends too early.
     BadText {
         file: Input,
         why: TextWhy,

@@ -4,16 +4,16 @@ use Rattle.gs_lib.proofs.read.read_leaks.Goals as goal
 
 pub returns-clause-ok : goal.returns-clause-ok
 returns-clause-ok c =
-    answers_ok c.args.root.now c.read_root-read.result (subst (λ n. Answers n c.read_root-read.result) c.root.ensures c.read_root-read.ensures)
+    answers_ok c.args.root.now c.read_root-read.result (subst (λ n. Answers n c.read_root-read.result) c.root.ensures.value c.read_root-read.ensures)
 
 pub returns-clause-only : goal.returns-clause-only
 returns-clause-only c =
-    answers_only c.args.root.now c.read_root-read.result (subst (λ n. Answers n c.read_root-read.result) c.root.ensures c.read_root-read.ensures)
+    answers_only c.args.root.now c.read_root-read.result (subst (λ n. Answers n c.read_root-read.result) c.root.ensures.value c.read_root-read.ensures)
 
 pub returns-clause-err : goal.returns-clause-err
 returns-clause-err c =
-    answers_err c.args.root.now c.read_root-read.result (subst (λ n. Answers n c.read_root-read.result) c.root.ensures c.read_root-read.ensures)
+    answers_err c.args.root.now c.read_root-read.result (subst (λ n. Answers n c.read_root-read.result) c.root.ensures.value c.read_root-read.ensures)
 
 pub returns-clause-exact : goal.returns-clause-exact
 returns-clause-exact c =
-    answers_exact c.args.root.now c.read_root-read.result (subst (λ n. Answers n c.read_root-read.result) c.root.ensures c.read_root-read.ensures)
+    answers_exact c.args.root.now c.read_root-read.result (subst (λ n. Answers n c.read_root-read.result) c.root.ensures.value c.read_root-read.ensures)

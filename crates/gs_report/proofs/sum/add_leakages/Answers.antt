@@ -1,4 +1,4 @@
-use Rattle.std.proofs.Common.{◌≡◌, ◌∙◌, sym, ap, take, take_all, get_or, to_z, w64, Some, None, arith}
+use Rattle.std.proofs.Common.{◌≡◌, ◌∙◌, sym, ap, take_all, get_or, to_z, w64, Some, None}
 use Rattle.gs_lib.specs.Table.{leakage_of}
 use Rattle.gs_report.specs.Sum.{is_known, total_of}
 use Rattle.gs_report.proofs.Known.{more, stop, all}

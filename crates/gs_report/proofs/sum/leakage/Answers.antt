@@ -1,5 +1,6 @@
-use Rattle.std.proofs.Common.{◌≤ℤ◌, ◌<ℤ◌, pos, to_z, of_z, w64, ◌∙◌, sym, subst}
-use Rattle.gs_report.proofs.Amounts.{IsAmount, within}
+use Rattle.std.proofs.Common.{to_z, of_z, w64, ◌∙◌, sym, subst}
+use Rattle.gs_lib.specs.Amount.{IsAmount}
+use Rattle.gs_report.proofs.Amounts.{within}
 use Rattle.gs_report.proofs.sum.leakage.Goals as goal
 
 pub returns-in-Some-clause-within : goal.returns-in-Some-clause-within

@@ -6,15 +6,15 @@ returns-in-Ok-clause-ok c =
     if_ok (library_read c.args.bytes.now c.requires c.in-Ok.root c.in-Ok.ensures.ok) c.read_cells.result c.read_cells.ensures.ok
 
 pub returns-in-Ok-clause-err : goal.returns-in-Ok-clause-err
-returns-in-Ok-clause-err c n =
-    if_err (library_refused c.args.bytes.now c.requires c.in-Ok.root c.in-Ok.ensures.ok n) c.read_cells.result c.read_cells.ensures.err
+returns-in-Ok-clause-err c =
+    if_err (library_refused c.args.bytes.now c.requires c.in-Ok.root c.in-Ok.ensures.ok) c.read_cells.result c.read_cells.ensures.err
 
 pub returns-in-Ok-clause-complete : goal.returns-in-Ok-clause-complete
 returns-in-Ok-clause-complete c t h =
     c.read_cells.ensures.complete t (leaks_too c.args.bytes.now c.requires c.in-Ok.root c.in-Ok.ensures.ok t h)
 
 pub returns-in-Err-clause-err : goal.returns-in-Err-clause-err
-returns-in-Err-clause-err c n = library_unread c.args.bytes.now c.requires n c.in-Err.status (c.in-Err.ensures.err n)
+returns-in-Err-clause-err c = library_unread c.args.bytes.now c.requires c.in-Err.status c.in-Err.ensures.err
 
 pub returns-in-Err-clause-complete : goal.returns-in-Err-clause-complete
 returns-in-Err-clause-complete c t h = c.in-Err.ensures.complete h.root h.is_root

@@ -1,5 +1,5 @@
 use Rattle.std.proofs.Common.{◌∙◌, sym, ap}
-use Rattle.gs_top.specs.Design.{told, verilog_status}
+use Rattle.gs_top.specs.Design.{refused_as, verilog_status}
 use Rattle.gs_top.specs.declared.status.Input.TheVariants.{Verilog}
 use Rattle.gs_top.proofs.Reading.{small, netlist_unread}
 use Rattle.gs_top.proofs.netlist.read_text.Goals as goal
@@ -9,12 +9,12 @@ returns-in-Ok-clause-ok c =
     record {
       is = record { few = c.requires; stands = c.in-Ok.ensures.ok };
       one = λ other h. sym (c.in-Ok.ensures.only other h.stands);
-      accepted = small Verilog c.args.bytes.now _ c.requires ∙ ap (told verilog_status) c.in-Ok.ensures.function;
+      accepted = small Verilog c.args.bytes.now _ c.requires ∙ ap (refused_as verilog_status) c.in-Ok.ensures.function;
     }
 
 pub returns-in-Err-clause-err : goal.returns-in-Err-clause-err
-returns-in-Err-clause-err c l =
-    netlist_unread l c.args.bytes.now c.requires c.in-Err.error c.verilog_status.result c.verilog_status.ensures c.in-Err.ensures.function c.in-Err.ensures.err
+returns-in-Err-clause-err c =
+    netlist_unread c.args.bytes.now c.requires c.in-Err.error c.verilog_status.result c.verilog_status.ensures c.in-Err.ensures.function c.in-Err.ensures.err
 
 pub returns-in-Err-clause-complete : goal.returns-in-Err-clause-complete
 returns-in-Err-clause-complete c other h = c.verilog_status.ensures ∙ ap verilog_status (c.in-Err.ensures.only other h.stands)

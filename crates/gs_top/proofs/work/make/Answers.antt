@@ -1,7 +1,7 @@
 use Rattle.std.proofs.Common.{sym, ap, subst, []}
 use Rattle.std.specs.Prelude.{unwrap_or}
 use Rattle.gs_shelf.specs.Files.{content}
-use Rattle.gs_top.specs.Accepted.{IsNetlistOf, RefusalCause}
+use Rattle.gs_top.specs.Accepted.{IsNetlistOf, NetlistCause}
 use Rattle.gs_top.specs.Design.{netlist_of}
 use Rattle.gs_top.specs.Work.{IsTheNetlist, LoadRefuses}
 use Rattle.gs_top.specs.declared.status.Input.TheVariants.{Lib, Verilog}
@@ -10,7 +10,7 @@ use Rattle.gs_top.proofs.Reading.{if_ok, if_err}
 use Rattle.gs_top.proofs.work.make.Goals as goal
 
 pub returns-in-Err-clause-err : goal.returns-in-Err-clause-err
-returns-in-Err-clause-err g c tells = library_lost _ _ c.in-Err.status (c.in-Err.ensures.err tells _)
+returns-in-Err-clause-err g c tells = library_lost _ _ c.in-Err.status (c.in-Err.ensures.err tells)
 
 pub returns-in-Err-clause-complete : goal.returns-in-Err-clause-complete
 returns-in-Err-clause-complete g c tells d h = lost_design Lib c.in-Err.status (c.in-Err.ensures.complete tells d.leaks h.leaks)
@@ -21,7 +21,7 @@ returns-in-Err-load_netlist-clause-err g c tells =
     let n = content (g.H.Shelf.files c.args.shelf.now) c.args.job.now.verilog.now in
     let same = ap (λ o. unwrap_or o []) (c.in-Ok.ensures.stay c.args.job.now.verilog.now) in
     let s = c.in-Err-load_netlist.status in
-    netlist_lost l n c.in-Ok.leaks (c.in-Ok.ensures.ok tells) s (subst (λ b. LoadRefuses Verilog (netlist_of b) (RefusalCause l b) s) same (c.in-Err-load_netlist.ensures.err tells l))
+    netlist_lost l n c.in-Ok.leaks (c.in-Ok.ensures.ok tells) s (subst (λ b. LoadRefuses Verilog (netlist_of b) (NetlistCause b) s) same (c.in-Err-load_netlist.ensures.err tells))
 
 pub returns-in-Err-load_netlist-clause-complete : goal.returns-in-Err-load_netlist-clause-complete
 returns-in-Err-load_netlist-clause-complete g c tells d h =

@@ -1,6 +1,11 @@
-use Rattle.gs_top.proofs.Storing.{leaves_stored}
+use Rattle.gs_top.proofs.Storing.{leaves_stored, leaves_refused}
+use Rattle.gs_top.specs.Work.{the_job}
 use Rattle.gs_top.proofs.work.work.Goals as goal
 
 pub returns-in-Ok-clause-leaves : goal.returns-in-Ok-clause-leaves
 returns-in-Ok-clause-leaves g c tells =
     leaves_stored _ _ _ _ c.in-Ok.ensures.stay c.in-Ok.texts (c.in-Ok.ensures.ok tells) c.store_texts.result (c.store_texts.ensures.leaves tells)
+
+pub returns-in-Err-clause-leaves : goal.returns-in-Err-clause-leaves
+returns-in-Err-clause-leaves g c tells =
+    leaves_refused (the_job c.args.job.now) _ _ c.in-Err.ensures.stay c.in-Err.status (c.in-Err.ensures.err tells)
