@@ -6,6 +6,7 @@ use crate::words::Words;
 use gs_lib::LibErr;
 use gs_quantity::Mem;
 use gs_shelf::{Bytes, Failures, FileList, MemShelf, NeverFails, Numbers};
+use itoa::Buffer;
 use std::alloc::{AllocError, Global};
 use std::test::Fail;
 
@@ -229,6 +230,14 @@ fn status_of(alloc: Global, library: &str, netlist: &str) -> Result<Status, Fail
     Ok(run(alloc, &size_words(alloc)?, &mut shelf))
 }
 
+/// Whether the library lacks the cell of the instance of this name.
+fn is_unknown_cell_of(status: &Status, name: &[u8]) -> bool {
+    match status {
+        Status::BadDesign(LinkErr::UnknownCell { by }) => by.is(name),
+        _ => false,
+    }
+}
+
 #[test]
 fn statuses_byte_by_byte(rt: HostRuntime) -> Result<(), Fail> {
     let alloc = rt.alloc();
@@ -248,11 +257,7 @@ fn statuses_byte_by_byte(rt: HostRuntime) -> Result<(), Fail> {
     let library = status_of(alloc, "l (l) {}", CHAIN)?;
     assert!(rt; matches!(library, Status::BadLibrary(LibErr::Missing { .. })));
     let design = status_of(alloc, "library (l) {}", CHAIN)?;
-    let named = match design {
-        Status::BadDesign(LinkErr::UnknownCell { by }) => by.is(b"g1"),
-        _ => false,
-    };
-    assert!(rt; named);
+    assert!(rt; is_unknown_cell_of(&design, b"g1"));
     Ok(())
 }
 
@@ -380,5 +385,105 @@ fn missing_files_and_other_words(rt: HostRuntime) -> Result<(), Fail> {
         let line = b"usage: gate-sizer size, check, audit or gen, with options\n";
         assert!(rt; shelf.said.is(line.as_slice()));
     }
+    Ok(())
+}
+
+/// A library of so many cells.
+fn many_cells(alloc: Global, count: u32) -> Result<Vec<u8>, AllocError> {
+    let mut text = Vec::from_slice(alloc, b"library (l) {")?;
+    for k in 0..count {
+        let mut digits = Buffer::new();
+        text.extend_from_slice(b"cell (c")?;
+        text.extend_from_slice(digits.format(k).as_bytes())?;
+        text.extend_from_slice(b") { cell_leakage_power : 1 ; }")?;
+    }
+    text.extend_from_slice(b"}")?;
+    Ok(text)
+}
+
+/// A library whose groups are so many deep, one more than `inner`.
+fn nested(alloc: Global, inner: u32) -> Result<Vec<u8>, AllocError> {
+    let mut text = Vec::from_slice(alloc, b"library(l){")?;
+    for _ in 0..inner {
+        text.extend_from_slice(b"g(){")?;
+    }
+    for _ in 0..inner {
+        text.extend_from_slice(b"}")?;
+    }
+    text.extend_from_slice(b"}")?;
+    Ok(text)
+}
+
+/// A netlist of so many instances of one cell.
+fn many_instances(alloc: Global, count: u32) -> Result<Vec<u8>, AllocError> {
+    let mut text = Vec::from_slice(alloc, b"module m;")?;
+    for k in 0..count {
+        let mut digits = Buffer::new();
+        text.extend_from_slice(b"c0 i")?;
+        text.extend_from_slice(digits.format(k).as_bytes())?;
+        text.extend_from_slice(b"();")?;
+    }
+    text.extend_from_slice(b"endmodule")?;
+    Ok(text)
+}
+
+/// Whether a run on these bytes says the line.
+fn says(alloc: Global, library: &[u8], netlist: &[u8], line: &str) -> Result<bool, Fail> {
+    let mut files = FileList::new(alloc);
+    files.put(alloc, b"n.lib", library)?;
+    files.put(alloc, b"n.v", netlist)?;
+    let said = Bytes::new(alloc);
+    let mut shelf = NeverFails { files, said };
+    let _ = run(alloc, &size_words(alloc)?, &mut shelf);
+    Ok(shelf.said.is(line.as_bytes()))
+}
+
+#[test]
+fn a_library_of_too_many_cells(rt: HostRuntime) -> Result<(), Fail> {
+    let alloc = rt.alloc();
+    let most = many_cells(alloc, 65_535)?;
+    assert!(rt; says(alloc, most.as_slice(), EMPTY.as_bytes(), "written 0\n")?);
+    let more = many_cells(alloc, 65_536)?;
+    assert!(rt;
+        says(
+            alloc,
+            more.as_slice(),
+            EMPTY.as_bytes(),
+            "bad library toomany\n"
+        )?
+    );
+    Ok(())
+}
+
+#[test]
+fn a_library_of_too_deep_groups(rt: HostRuntime) -> Result<(), Fail> {
+    let alloc = rt.alloc();
+    let most = nested(alloc, 63)?;
+    assert!(rt; says(alloc, most.as_slice(), EMPTY.as_bytes(), "written 0\n")?);
+    let more = nested(alloc, 64)?;
+    assert!(rt;
+        says(
+            alloc,
+            more.as_slice(),
+            EMPTY.as_bytes(),
+            "bad library toodeep at 260\n"
+        )?
+    );
+    Ok(())
+}
+
+#[test]
+fn a_design_of_too_many_instances(rt: HostRuntime) -> Result<(), Fail> {
+    let alloc = rt.alloc();
+    let cells = many_cells(alloc, 1)?;
+    let more = many_instances(alloc, 2_097_152)?;
+    assert!(rt;
+        says(
+            alloc,
+            cells.as_slice(),
+            more.as_slice(),
+            "bad design toomany\n"
+        )?
+    );
     Ok(())
 }
