@@ -4,4 +4,5 @@ pub mod Attributes
 pub mod Exact
 pub mod Grown
 pub mod Items
+pub mod Kept
 pub mod Rows

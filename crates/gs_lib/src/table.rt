@@ -1,7 +1,8 @@
 //! The table of a library's leakage.
 #![tactic(auto)]
 
-ghost use Rattle.std.specs.Prelude.{◌≡◌};
+ghost use Rattle.std.specs.Prelude.{◌≡◌, IfSome};
+ghost use Rattle.gs_lib.specs.Amount.{IsAmount};
 ghost use Rattle.gs_lib.specs.Index.{Finds};
 ghost use Rattle.gs_lib.specs.Table.{AreKept, IsLeakTable, leakage_of};
 
@@ -62,7 +63,9 @@ impl Leaks {
     /// The leakage of the cell of a name, in millionths of the unit; `None` where the library has no such cell. It takes no
     /// memory, and the time of a look into an ordered map.
     pub fn leakage_of(&self, cell: &Name) -> Option<Micro>
-        ensures { result ≡ leakage_of self.now.cells cell.now }
+        ensures value { result ≡ leakage_of self.now.cells cell.now }
+        // It isn't negative, and is below 2^40 millionths.
+        ensures amount { IfSome result (λ m. IsAmount m) }
     {
         self.index.get(cell).copied()
     }

@@ -1,7 +1,7 @@
 //! The leakage of a netlist.
 ghost use Rattle.std.specs.Prelude.{◌≡◌, ◌^◌, ◌<◌, ◌≤◌, length, Err, MatchResult, IfSome};
 ghost use Rattle.gs_lib.specs.Amount.{IsAmount};
-ghost use Rattle.gs_lib.specs.Table.{IsLeakTable, leakage_of};
+ghost use Rattle.gs_lib.specs.Table.{leakage_of};
 ghost use Rattle.gs_report.specs.Sum.{HasSum, LacksCell, known_of, sum_of};
 
 use crate::error::SumErr;
@@ -21,7 +21,6 @@ fn millionths(quantity: Micro) -> i64
 
 /// The leakage of an instance's cell.
 fn leakage(inst: &RawInst, leaks: &Leaks) -> Option<i64>
-    requires { IsLeakTable leaks.now }
     ensures value { result ≡ leakage_of leaks.now.cells inst.now.cell }
     ensures within { IfSome result IsAmount }
 {
@@ -33,8 +32,7 @@ fn leakage(inst: &RawInst, leaks: &Leaks) -> Option<i64>
 
 /// The sum over fewer instances than the limit, or the number of the first whose cell the library lacks.
 fn add_leakages(insts: &[RawInst], leaks: &Leaks) -> Result<i64, usize>
-    requires few { length insts.now < 2 ^ 21 }
-    requires kept { IsLeakTable leaks.now }
+    requires { length insts.now < 2 ^ 21 }
     ensures { MatchResult result (HasSum leaks.now.cells insts.now) (LacksCell leaks.now.cells insts.now) }
 {
     let mut sum = 0i64;
@@ -85,7 +83,6 @@ pub fn sum_leakage(netlist: &Netlist, leaks: &Leaks) -> Result<Micro, SumErr>
     if insts.len() >= LIMIT {
         return Err(refuse_many(insts, leaks));
     }
-    let _kept = leaks.cells();
     match add_leakages(insts, leaks) {
         Ok(sum) => Ok(Micro(sum)),
         Err(k) => Err(SumErr::UnknownCell { inst: k as u64 }),

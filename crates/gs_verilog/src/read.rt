@@ -40,14 +40,15 @@ fn unread(error: TextErr) -> VerilogErr
     }
 }
 
-/// A reader for so many pieces, with a bucket for each 128 of them: about six instances, and as many new nets.
+/// A reader for so many pieces, with a bucket for each 256 of them: about twelve instances and as many new nets, which is one node of
+/// an ordered map.
 fn reader_for<'a>(alloc: Global, pieces: usize) -> Result<Reader<'a>, VerilogErr>
     requires { pieces ≤ 2 ^ 28 }
     ensures indexed { IfOk result (λ r. IsIndexed r.built) }
     ensures value { IfOk result (λ r. state_of r ≡ start) }
     ensures err { IfErr result (λ e. e ≡ VerilogErr.Mem) }
 {
-    match Reader::new(alloc, pieces / 128 + 1) {
+    match Reader::new(alloc, pieces / 256 + 1) {
         Ok(reader) => Ok(reader),
         Err(_) => Err(VerilogErr::Mem),
     }

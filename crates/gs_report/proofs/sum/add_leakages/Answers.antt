@@ -9,7 +9,7 @@ pub returns-in-None : goal.returns-in-None
 returns-in-None c =
     let cell : leakage_of c.args.leaks.now.cells (get_or c.args.insts.now c.loop-k.k c.index-insts-k.result).cell ≡ None =
     ap (λ i. leakage_of c.args.leaks.now.cells i.cell) (sym c.index-insts-k.is) ∙ sym c.leakage.ensures.value ∙ c.in-None.is in
-    let failed = unknown_here c.args.leaks.now.cells c.args.insts.now c.loop-k.k c.index-insts-k.result c.loop-k-test.true c.requires.few cell in (
+    let failed = unknown_here c.args.leaks.now.cells c.args.insts.now c.loop-k.k c.index-insts-k.result c.loop-k-test.true c.requires cell in (
       stop (is_known c.args.leaks.now.cells) c.args.insts.now c.loop-k.k c.index-insts-k.result c.loop-k.invariant.3 c.loop-k-test.true failed,
       c.loop-k-test.true,
     )
@@ -21,7 +21,7 @@ loop-k-preserved c =
     let k = c.loop-k.k in
     let d = c.index-insts-k.result in
     let lt = c.loop-k-test.true in
-    let few = c.requires.few in
+    let few = c.requires in
     let cell : leakage_of rows (get_or insts k d).cell ≡ Some c.in-Some.leakage =
     ap (λ i. leakage_of rows i.cell) (sym c.index-insts-k.is) ∙ sym c.leakage.ensures.value ∙ c.in-Some.is in
     let sum = to_z w64 c.loop-k.sum-bits in
