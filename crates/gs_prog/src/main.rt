@@ -5,6 +5,9 @@
 //! memory for them with exit code 6; it prints nothing in either case.
 #![tactic(auto)]
 
+#[cfg(test)]
+mod limits;
+
 use gs_quantity::Mem;
 use gs_shelf::HostShelf;
 use gs_top::{Status, Words, exit_of, run};

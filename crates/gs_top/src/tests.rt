@@ -6,7 +6,6 @@ use crate::words::Words;
 use gs_lib::LibErr;
 use gs_quantity::Mem;
 use gs_shelf::{Bytes, Failures, FileList, MemShelf, NeverFails, Numbers};
-use itoa::Buffer;
 use std::alloc::{AllocError, Global};
 use std::test::Fail;
 
@@ -388,19 +387,6 @@ fn missing_files_and_other_words(rt: HostRuntime) -> Result<(), Fail> {
     Ok(())
 }
 
-/// A library of so many cells.
-fn many_cells(alloc: Global, count: u32) -> Result<Vec<u8>, AllocError> {
-    let mut text = Vec::from_slice(alloc, b"library (l) {")?;
-    for k in 0..count {
-        let mut digits = Buffer::new();
-        text.extend_from_slice(b"cell (c")?;
-        text.extend_from_slice(digits.format(k).as_bytes())?;
-        text.extend_from_slice(b") { cell_leakage_power : 1 ; }")?;
-    }
-    text.extend_from_slice(b"}")?;
-    Ok(text)
-}
-
 /// A library whose groups are so many deep, one more than `inner`.
 fn nested(alloc: Global, inner: u32) -> Result<Vec<u8>, AllocError> {
     let mut text = Vec::from_slice(alloc, b"library(l){")?;
@@ -411,19 +397,6 @@ fn nested(alloc: Global, inner: u32) -> Result<Vec<u8>, AllocError> {
         text.extend_from_slice(b"}")?;
     }
     text.extend_from_slice(b"}")?;
-    Ok(text)
-}
-
-/// A netlist of so many instances of one cell.
-fn many_instances(alloc: Global, count: u32) -> Result<Vec<u8>, AllocError> {
-    let mut text = Vec::from_slice(alloc, b"module m;")?;
-    for k in 0..count {
-        let mut digits = Buffer::new();
-        text.extend_from_slice(b"c0 i")?;
-        text.extend_from_slice(digits.format(k).as_bytes())?;
-        text.extend_from_slice(b"();")?;
-    }
-    text.extend_from_slice(b"endmodule")?;
     Ok(text)
 }
 
@@ -439,23 +412,6 @@ fn says(alloc: Global, library: &[u8], netlist: &[u8], line: &str) -> Result<boo
 }
 
 #[test]
-fn a_library_of_too_many_cells(rt: HostRuntime) -> Result<(), Fail> {
-    let alloc = rt.alloc();
-    let most = many_cells(alloc, 65_535)?;
-    assert!(rt; says(alloc, most.as_slice(), EMPTY.as_bytes(), "written 0\n")?);
-    let more = many_cells(alloc, 65_536)?;
-    assert!(rt;
-        says(
-            alloc,
-            more.as_slice(),
-            EMPTY.as_bytes(),
-            "bad library toomany\n"
-        )?
-    );
-    Ok(())
-}
-
-#[test]
 fn a_library_of_too_deep_groups(rt: HostRuntime) -> Result<(), Fail> {
     let alloc = rt.alloc();
     let most = nested(alloc, 63)?;
@@ -467,22 +423,6 @@ fn a_library_of_too_deep_groups(rt: HostRuntime) -> Result<(), Fail> {
             more.as_slice(),
             EMPTY.as_bytes(),
             "bad library toodeep at 260\n"
-        )?
-    );
-    Ok(())
-}
-
-#[test]
-fn a_design_of_too_many_instances(rt: HostRuntime) -> Result<(), Fail> {
-    let alloc = rt.alloc();
-    let cells = many_cells(alloc, 1)?;
-    let more = many_instances(alloc, 2_097_152)?;
-    assert!(rt;
-        says(
-            alloc,
-            cells.as_slice(),
-            more.as_slice(),
-            "bad design toomany\n"
         )?
     );
     Ok(())

@@ -1,0 +1,92 @@
+//! The limits on cells and instances, on texts too large for the tests of a lower crate.
+
+use gs_quantity::Mem;
+use gs_shelf::{Bytes, FileList, NeverFails};
+use gs_top::{Words, run};
+use itoa::Buffer;
+use std::alloc::{AllocError, Global};
+use std::test::Fail;
+
+/// A netlist without an instance.
+const EMPTY: &[u8] = b"module e; endmodule";
+
+/// A library of so many cells.
+fn many_cells(alloc: Global, count: u32) -> Result<Vec<u8>, AllocError> {
+    let mut text = Vec::from_slice(alloc, b"library (l) {")?;
+    for k in 0..count {
+        let mut digits = Buffer::new();
+        text.extend_from_slice(b"cell (c")?;
+        text.extend_from_slice(digits.format(k).as_bytes())?;
+        text.extend_from_slice(b") { cell_leakage_power : 1 ; }")?;
+    }
+    text.extend_from_slice(b"}")?;
+    Ok(text)
+}
+
+/// A netlist of so many instances of one cell.
+fn many_instances(alloc: Global, count: u32) -> Result<Vec<u8>, AllocError> {
+    let mut text = Vec::from_slice(alloc, b"module m;")?;
+    for k in 0..count {
+        let mut digits = Buffer::new();
+        text.extend_from_slice(b"c0 i")?;
+        text.extend_from_slice(digits.format(k).as_bytes())?;
+        text.extend_from_slice(b"();")?;
+    }
+    text.extend_from_slice(b"endmodule")?;
+    Ok(text)
+}
+
+fn size_words(alloc: Global) -> Result<Words, Mem> {
+    let mut words = Words::new(alloc);
+    for word in [
+        "size",
+        "--lib",
+        "n.lib",
+        "--verilog",
+        "n.v",
+        "--sizes",
+        "n.sizes",
+        "--report",
+        "n.rpt",
+    ] {
+        words.add(word)?;
+    }
+    Ok(words)
+}
+
+/// Whether a run on these bytes says the line.
+fn says(alloc: Global, library: &[u8], netlist: &[u8], line: &str) -> Result<bool, Fail> {
+    let mut files = FileList::new(alloc);
+    files.put(alloc, b"n.lib", library)?;
+    files.put(alloc, b"n.v", netlist)?;
+    let said = Bytes::new(alloc);
+    let mut shelf = NeverFails { files, said };
+    let _ = run(alloc, &size_words(alloc)?, &mut shelf);
+    Ok(shelf.said.is(line.as_bytes()))
+}
+
+#[test]
+fn a_library_of_too_many_cells(rt: HostRuntime) -> Result<(), Fail> {
+    let alloc = rt.alloc();
+    let most = many_cells(alloc, 65_535)?;
+    assert!(rt; says(alloc, most.as_slice(), EMPTY, "written 0\n")?);
+    let more = many_cells(alloc, 65_536)?;
+    assert!(rt; says(alloc, more.as_slice(), EMPTY, "bad library toomany\n")?);
+    Ok(())
+}
+
+#[test]
+fn a_design_of_too_many_instances(rt: HostRuntime) -> Result<(), Fail> {
+    let alloc = rt.alloc();
+    let cells = many_cells(alloc, 1)?;
+    let more = many_instances(alloc, 2_097_152)?;
+    assert!(rt;
+        says(
+            alloc,
+            cells.as_slice(),
+            more.as_slice(),
+            "bad design toomany\n"
+        )?
+    );
+    Ok(())
+}
