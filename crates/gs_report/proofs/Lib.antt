@@ -1,3 +1,4 @@
 pub mod Amounts
 pub mod Known
+pub mod Laws
 pub mod Totals

@@ -1,7 +1,7 @@
 -- The leakage of a netlist at the cells that its instances name.
 
-use Rattle.std.specs.Prelude.{ℕ, ◌≡◌, ◌<◌, ◌^◌, nat_lt, Bool, List, length, unwrap_or, Result, Ok, Err, ℤ, pos, ◌+ℤ◌, fold, if◌then◌else◌}
-use Rattle.std.specs.List.{prefix_len}
+use Rattle.std.specs.Prelude.{ℕ, ◌≡◌, ◌<◌, ◌≤◌, ◌^◌, nat_lt, Bool, true, List, ◌∷◌, ◌++◌, map, length, unwrap_or, None, Some, Result, Ok, Err, ℤ, pos, ◌+ℤ◌, fold, if◌then◌else◌}
+use Rattle.std.specs.List.{AllByRecursion, prefix_len}
 use Rattle.std.specs.Option.{is_some}
 use Rattle.gs_lib.specs.Table.{leakage_of}
 use Rattle.gs_lib.specs.declared.row.LeakRow.{LeakRow}
@@ -29,10 +29,43 @@ total_of rows insts = fold (λ sum i. sum +ℤ leakage_at rows i) (pos 0) insts
 abbrev pub limited_sum : List LeakRow → List RawInst → Result ℤ SumErr
 limited_sum rows insts = if nat_lt (length insts) (2 ^ 21) then Ok (total_of rows insts) else Err (TooMany (length insts))
 
--- the sum; or the first instance whose cell isn't in the library; or else too many instances
+-- the same as a function: the sum; or the first instance whose cell isn't in the library; or else too many instances
 abbrev pub sum_of : List LeakRow → List RawInst → Result ℤ SumErr
 sum_of rows insts =
     if nat_lt (known_of rows insts) (length insts) then Err (UnknownCell (known_of rows insts)) else limited_sum rows insts
+
+-- these are the leakages of the instances' cells, one for each instance
+abbrev pub HaveLeakages : List LeakRow → List RawInst → List ℤ → Type 0
+HaveLeakages rows insts leakages = map (λ i. leakage_of rows i.cell) insts ≡ map Some leakages
+
+-- all cells are known, the instances are few enough, and this is the sum of their leakages
+pub record IsSum (rows : List LeakRow) (insts : List RawInst) (total : ℤ) : Type 0 where
+  pub leakages : List ℤ
+  pub each : HaveLeakages rows insts leakages
+  pub few : length insts < 2 ^ 21
+  pub is : total ≡ fold ◌+ℤ◌ (pos 0) leakages
+
+-- instance k is the first whose cell isn't in the library
+pub record IsFirstUnknown (rows : List LeakRow) (insts : List RawInst) (k : ℕ) : Type 0 where
+  pub before : List RawInst
+  pub inst : RawInst
+  pub after : List RawInst
+  pub split : insts ≡ before ++ inst ∷ after
+  pub place : length before ≡ k
+  pub known : AllByRecursion (λ i. is_known rows i ≡ true) before
+  pub unknown : leakage_of rows inst.cell ≡ None
+
+-- all cells are known, and there are so many instances, which is too many
+pub record AreTooMany (rows : List LeakRow) (insts : List RawInst) (count : ℕ) : Type 0 where
+  pub leakages : List ℤ
+  pub each : HaveLeakages rows insts leakages
+  pub many : 2 ^ 21 ≤ length insts
+  pub is : count ≡ length insts
+
+-- the cause of each refusal
+abbrev pub HasCause : List LeakRow → List RawInst → SumErr → Type 0
+HasCause rows insts (UnknownCell k) = IsFirstUnknown rows insts k
+HasCause rows insts (TooMany count) = AreTooMany rows insts count
 
 -- all cells are known, and this is the sum
 abbrev pub HasSum : List LeakRow → List RawInst → ℤ → Type 0

@@ -1,8 +1,9 @@
 //! The leakage of a netlist.
-ghost use Rattle.std.specs.Prelude.{◌≡◌, ◌^◌, ◌<◌, ◌≤◌, length, Err, MatchResult, IfSome};
+ghost use Rattle.std.specs.Prelude.{◌≡◌, ◌^◌, ◌<◌, ◌≤◌, ℤ, length, Ok, Err, IfErr, IfOk, IfSome, MatchResult};
 ghost use Rattle.gs_lib.specs.Amount.{IsAmount};
 ghost use Rattle.gs_lib.specs.Table.{leakage_of};
-ghost use Rattle.gs_report.specs.Sum.{HasSum, LacksCell, known_of, sum_of};
+ghost use Rattle.gs_report.specs.Sum.{HasCause, HasSum, IsSum, LacksCell, known_of, sum_of};
+ghost use Rattle.gs_report.specs.declared.error.SumErr.{SumErr};
 
 use crate::error::SumErr;
 use gs_lib::Leaks;
@@ -69,17 +70,10 @@ fn refuse_many(insts: &[RawInst], leaks: &Leaks) -> SumErr
     }
 }
 
-/// The sum of the leakages of the cells that the instances name, exactly, in millionths of the library's unit of leakage. It
-/// takes no memory.
-///
-/// # Errors
-///
-/// `UnknownCell` of the first instance whose cell the library lacks; else `TooMany` for `2^21` instances or more.
-pub fn sum_leakage(netlist: &Netlist, leaks: &Leaks) -> Result<Micro, SumErr>
-    // The answer for every netlist and every library: the sum, exactly where each cell is known and the instances are few enough.
-    ensures exact { result ≡ sum_of leaks.now.cells netlist.now.insts }
+/// The sum over these instances, or why there is none.
+fn answer(insts: &[RawInst], leaks: &Leaks) -> Result<Micro, SumErr>
+    ensures { result ≡ sum_of leaks.now.cells insts.now }
 {
-    let insts = netlist.insts();
     if insts.len() >= LIMIT {
         return Err(refuse_many(insts, leaks));
     }
@@ -87,4 +81,26 @@ pub fn sum_leakage(netlist: &Netlist, leaks: &Leaks) -> Result<Micro, SumErr>
         Ok(sum) => Ok(Micro(sum)),
         Err(k) => Err(SumErr::UnknownCell { inst: k as u64 }),
     }
+}
+
+/// The sum of the leakages of the cells that the instances name, exactly, in millionths of the library's unit of leakage. It
+/// takes no memory.
+///
+/// # Errors
+///
+/// `UnknownCell` of the first instance whose cell the library lacks; else `TooMany` for `2^21` instances or more.
+pub fn sum_leakage(netlist: &Netlist, leaks: &Leaks) -> Result<Micro, SumErr>
+    // What is answered is the sum of the leakages of the instances' cells,
+    ensures ok { IfOk result (λ total. IsSum leaks.now.cells netlist.now.insts total) }
+    // and where there is a sum, it is answered.
+    ensures only { (total : ℤ) → IsSum leaks.now.cells netlist.now.insts total → result ≡ Ok total }
+    // Each refusal comes only by its cause,
+    ensures err { IfErr result (λ e. HasCause leaks.now.cells netlist.now.insts e) }
+    // and where a cause stands, its refusal comes.
+    ensures exact { (e : SumErr) → HasCause leaks.now.cells netlist.now.insts e → result ≡ Err e }
+    // The answer is a function of the netlist and the library.
+    ensures function { result ≡ sum_of leaks.now.cells netlist.now.insts }
+{
+    let answer = answer(netlist.insts(), leaks);
+    answer
 }

@@ -1,3 +1,4 @@
+pub mod Accepting
 pub mod Form
 pub mod Making
 pub mod Names
@@ -5,3 +6,4 @@ pub mod Reading
 pub mod Refused
 pub mod Said
 pub mod Storing
+pub mod Sums

@@ -1,39 +1,28 @@
 -- From the files that were read to the texts, or to the refusal of the whole job.
-use Rattle.std.proofs.Common.{◌≡◌, ◌∙◌, refl, sym, ap, subst, inl, inr, ℕ, ◌≤◌, List, Result, Ok, Err, ℤ, arith}
+use Rattle.std.proofs.Common.{◌≡◌, ◌∙◌, sym, ap, subst, inl, inr, ℕ, ◌≤◌, List, Result, Ok, Err, ℤ, arith}
 use Rattle.gs_lib.specs.Table.{LeakTable}
-use Rattle.gs_report.specs.Sum.{sum_of}
-use Rattle.gs_report.specs.declared.error.SumErr.{SumErr}
-use Rattle.gs_report.specs.declared.error.SumErr.TheVariants as sum
+use Rattle.gs_report.specs.Sum.{IsSum}
 use Rattle.gs_shelf.specs.Faults.{Counts, Rose, NoneFell}
 use Rattle.gs_shelf.specs.declared.calls.Op.TheVariants.{Fetch}
 use Rattle.gs_verilog.specs.Circuit.{Circuit}
 use Rattle.gs_top.specs.Accepted.{IsDesignOf, IsRefused, LibraryCause, NetlistCause, DesignCause, FirstCause}
-use Rattle.gs_top.specs.Design.{Design, onwards, refused_as, library_of, netlist_of, total_in, design_with, design_of, sum_status}
+use Rattle.gs_top.specs.Design.{Design, onwards, library_of, netlist_of, total_in, design_with, design_of}
 use Rattle.gs_top.specs.Job.{Job}
-use Rattle.gs_top.specs.Run.{input_of}
-use Rattle.gs_top.specs.Work.{LoadCauses, LoadRefuses, IsLost, IsTheLibrary, IsTheNetlist, SumRefuses, Makes, MadeOf, MakeRefuses, MakeCauses, IsLostDesign}
+use Rattle.gs_top.specs.Run.{NoneRose, IsDone, input_of}
+use Rattle.gs_top.specs.Work.{LoadCauses, LoadRefuses, IsLost, IsTheLibrary, IsTheNetlist, Refuses, Makes, MadeOf, MakeRefuses, MakeCauses, IsLostDesign}
 use Rattle.gs_top.specs.declared.status.Input.{Input}
 use Rattle.gs_top.specs.declared.status.Input.TheVariants.{Lib, Verilog}
-use Rattle.gs_top.specs.declared.status.LinkErr.{LinkErr}
 use Rattle.gs_top.specs.declared.status.Status.{Status}
 use Rattle.gs_top.specs.declared.status.Status.TheVariants.{Written, Usage, ReadFault, TooLarge, BadText, BadLibrary, BadDesign, WriteFault, OutOfMemory}
 use Rattle.gs_top.specs.declared.texts.Texts.{Texts}
-
--- an answer that is refused_as has what was answered
-refused_as_ok : {X E : Type 0} (status : E → Status) (r : Result X E) (x : X) → refused_as status r ≡ Ok x → r ≡ Ok x
-refused_as_ok status (Ok y) x h = let same : y ≡ x = cc in ap Ok same
-refused_as_ok status (Err e) x h = cc
 
 same_design : (t u : LeakTable) (c d : Circuit) (m n : ℤ) → u ≡ t → d ≡ c → n ≡ m
     → ◌≡◌ {A = Design} (record { leaks = u; circuit = d; total = n }) (record { leaks = t; circuit = c; total = m })
 same_design t u c d m n e f g = cc
 
-same_total : (r : Result ℤ SumErr) (m n : ℤ) → r ≡ Ok m → r ≡ Ok n → n ≡ m
-same_total r m n e f = cc
-
 -- a refusal that isn't one of reading or writing
 module _ (l n : List ℕ) where
-  nowhere : (s : Status) → (LibraryCause l s → ⊥) → (NetlistCause n s → ⊥) → ((t : LeakTable) (c : Circuit) → DesignCause t c s → ⊥) → IsRefused l n s → MakeRefuses l n s
+  nowhere : (s : Status) → (LibraryCause l s → ⊥) → (NetlistCause n s → ⊥) → ((t : LeakTable) (c : Circuit) → DesignCause t c.insts s → ⊥) → IsRefused l n s → MakeRefuses l n s
   nowhere s f g k h = absurd (ever h.cause)
     where
       ever : FirstCause l n s → ⊥
@@ -77,61 +66,43 @@ module _ (l n : List ℕ) where
       of_total : (r : Result ℤ Status) → total_in t c.insts ≡ r → design_of l n ≡ onwards r (λ m. Ok (record { leaks = t; circuit = c; total = m }))
       of_total r h = with_both ∙ ap (λ x. onwards x (λ m. Ok (record { leaks = t; circuit = c; total = m }))) h
 
-      -- the texts are those of the one design
-      pub made_of : (texts : Texts) → Makes t c texts → MadeOf l n texts
-      made_of texts made =
-          let total : sum_of t.cells c.insts ≡ Ok made.total = refused_as_ok (sum_status c.insts) (sum_of t.cells c.insts) made.total made.is_total in
-          record {
-            design = record { leaks = t; circuit = c; total = made.total };
-            is = record {
-              is = record { leaks = lib.is; circuit = net.is; total = total };
-              one = λ e h.
-                  let u_is : e.leaks ≡ t = lib.one e.leaks h.leaks in
-                  let d_is : e.circuit ≡ c = net.one e.circuit h.circuit in
-                  let there : sum_of t.cells c.insts ≡ Ok e.total = subst (λ u. sum_of u.cells c.insts ≡ Ok e.total) u_is (subst (λ d. sum_of e.leaks.cells d.insts ≡ Ok e.total) d_is h.total) in
-                  same_design t e.leaks c e.circuit made.total e.total u_is d_is (same_total (sum_of t.cells c.insts) made.total e.total total there);
-              accepted = of_total (Ok made.total) made.is_total;
-            };
-            sizes = made.sizes;
-            report = made.report;
-            count = made.count;
-          }
-
-      refused_for : (e : LinkErr) → total_in t c.insts ≡ Err (BadDesign e) → MakeRefuses l n (BadDesign e)
-      refused_for e h = record { cause = inr (inr (t, c, lib.is, net.is, h)); first = of_total (Err (BadDesign e)) h }
-
-      by_sum : (r : Result ℤ SumErr) (s : Status) → sum_of t.cells c.insts ≡ r → refused_as (sum_status c.insts) r ≡ Err s → MakeRefuses l n s
-      by_sum (Ok m) s e h = absurd cc
-      by_sum (Err (sum.UnknownCell k)) s e h =
-          let is : sum_status c.insts (sum.UnknownCell k) ≡ s = cc in
-          subst (MakeRefuses l n) is (refused_for _ (ap (refused_as (sum_status c.insts)) e))
-      by_sum (Err (sum.TooMany count)) s e h =
-          let is : sum_status c.insts (sum.TooMany count) ≡ s = cc in
-          subst (MakeRefuses l n) is (refused_for _ (ap (refused_as (sum_status c.insts)) e))
-
-      -- there is no sum
-      pub sum_lost : (s : Status) → SumRefuses (total_in t c.insts) s → MakeRefuses l n s
-      sum_lost s (inl h) = subst (MakeRefuses l n) (sym h) tt
-      sum_lost s (inr h) = by_sum (sum_of t.cells c.insts) s refl h
-
-      summed : (d : Design) → IsDesignOf l n d → sum_of t.cells c.insts ≡ Ok d.total
-      summed d h =
+      of_sum : (d : Design) → IsDesignOf l n d → IsSum t.cells c.insts d.total
+      of_sum d h =
           let u_is : d.leaks ≡ t = lib.one d.leaks h.leaks in
           let d_is : d.circuit ≡ c = net.one d.circuit h.circuit in
-          subst (λ u. sum_of u.cells c.insts ≡ Ok d.total) u_is (subst (λ x. sum_of d.leaks.cells x.insts ≡ Ok d.total) d_is h.total)
+          subst (λ u. IsSum u.cells c.insts d.total) u_is (subst (λ x. IsSum d.leaks.cells x.insts d.total) d_is h.total)
 
-      refused_not : (s : Status) (m : ℤ) → sum_of t.cells c.insts ≡ Ok m → total_in t c.insts ≡ Err s → ⊥
-      refused_not s m e h = let there : total_in t c.insts ≡ Ok m = ap (refused_as (sum_status c.insts)) e in cc
+      -- the texts are those of the one design
+      pub made_of : (texts : Texts) → Makes t c texts → MadeOf l n texts
+      made_of texts made = record {
+        design = record { leaks = t; circuit = c; total = made.total };
+        is = record {
+          is = record { leaks = lib.is; circuit = net.is; total = made.sum.is };
+          one = λ e h.
+              same_design t e.leaks c e.circuit made.total e.total (lib.one e.leaks h.leaks) (net.one e.circuit h.circuit) (made.sum.one e.total (of_sum e h));
+          accepted = of_total (Ok made.total) made.sum.accepted;
+        };
+        sizes = made.sizes;
+        report = made.report;
+        count = made.count;
+      }
+
+      -- there is no sum
+      pub sum_lost : (s : Status) → Refuses (total_in t c.insts) (DesignCause t c.insts) s → MakeRefuses l n s
+      sum_lost s (inl h) = subst (MakeRefuses l n) (sym h) tt
+      sum_lost s (inr h) = of_refused s (record { cause = inr (inr (t, c, lib.is, net.is, h.1)); first = of_total (Err s) h.0 })
 
       -- of a design there is a sum
-      pub sum_only_lost : (d : Design) → IsDesignOf l n d → (s : Status) → SumRefuses (total_in t c.insts) s → IsLostDesign s
-      sum_only_lost d h s (inl e) = subst IsLostDesign (sym e) tt
-      sum_only_lost d h s (inr e) = absurd (refused_not s d.total (summed d h) e)
+      pub sum_of_design : (d : Design) → IsDesignOf l n d → IsSum t.cells c.insts d.total
+      sum_of_design d h = of_sum d h
 
 -- a file that would be read was not
 pub lost_design : (file : Input) (s : Status) → IsLost file s → IsLostDesign s
 lost_design file s (inl h) = subst IsLostDesign (sym h) tt
 lost_design file s (inr h) = subst IsLostDesign (sym h) tt
+
+pub lost_to_memory : (s : Status) → s ≡ OutOfMemory → IsLostDesign s
+lost_to_memory s h = subst IsLostDesign (sym h) tt
 
 -- what stands behind it
 pub load_causes : (job : Job) (old new : Counts) (file : Input) (s : Status) → LoadCauses file (old Fetch (input_of job file)) (new Fetch (input_of job file)) s → MakeCauses job old new s
@@ -159,3 +130,15 @@ causes_after job old mid new before (BadLibrary e) h = h
 causes_after job old mid new before (BadDesign e) h = tt
 causes_after job old mid new before (WriteFault f) h = h
 causes_after job old mid new before OutOfMemory h = tt
+
+-- without a fault of reading a lost design is lost to memory
+pub done_lost : (job : Job) (old new : Counts) → NoneRose old new → (s : Status) → MakeCauses job old new s → IsLostDesign s → IsDone s
+done_lost job old new none (Written instances) h l = tt
+done_lost job old new none Usage h l = absurd l
+done_lost job old new none (ReadFault file) h l = absurd (none Fetch (input_of job file) h)
+done_lost job old new none (TooLarge file) h l = absurd l
+done_lost job old new none (BadText file why place) h l = absurd l
+done_lost job old new none (BadLibrary e) h l = absurd l
+done_lost job old new none (BadDesign e) h l = absurd l
+done_lost job old new none (WriteFault file) h l = absurd l
+done_lost job old new none OutOfMemory h l = tt

@@ -7,17 +7,20 @@ use Rattle.gs_lib.specs.declared.error.LibErr.TheVariants as lib_err
 use Rattle.gs_libtree.specs.Refusal as tree
 use Rattle.gs_libtree.specs.declared.error.LibTextErr.TheVariants as tree_text
 use Rattle.gs_libtree.specs.declared.tree.Node.{Node}
-use Rattle.gs_report.specs.Sum.{sum_of}
+use Rattle.gs_report.specs.Sum.{IsSum, IsFirstUnknown, AreTooMany}
 use Rattle.gs_verilog.specs.Circuit.{Circuit}
 use Rattle.gs_verilog.specs.Refusal as netlist
 use Rattle.gs_verilog.specs.declared.error.VerilogErr.TheVariants as verilog
+use Rattle.gs_verilog.specs.declared.parts.RawInst.{RawInst}
+use Rattle.gs_top.specs.declared.status.Counted.TheVariants.{Instances}
+use Rattle.gs_top.specs.declared.status.LinkErr.TheVariants.{UnknownCell, TooMany}
 use Rattle.gs_top.specs.declared.status.Input.{Input}
 use Rattle.gs_top.specs.declared.status.Input.TheVariants.{Lib, Verilog}
 use Rattle.gs_top.specs.declared.status.TextWhy.{TextWhy}
 use Rattle.gs_top.specs.declared.status.TextWhy.TheVariants.{NotBuilt, OpenString, OpenComment, TooDeep, BadPiece, TwoNames, NoEnd}
 use Rattle.gs_top.specs.declared.status.Status.{Status}
 use Rattle.gs_top.specs.declared.status.Status.TheVariants.{TooLarge, BadText, BadLibrary, BadDesign}
-use Rattle.gs_top.specs.Design.{Design, library_of, total_in, design_of}
+use Rattle.gs_top.specs.Design.{Design, inst_name_at, library_of, design_of}
 
 -- the bytes are a Liberty text within the limit, and this is the leakage of its cells
 pub record IsLibraryOf (bytes : List ℕ) (t : LeakTable) : Type 0 where
@@ -35,7 +38,7 @@ pub record IsNetlistOf (bytes : List ℕ) (c : Circuit) : Type 0 where
 pub record IsDesignOf (library netlist : List ℕ) (d : Design) : Type 0 where
   pub leaks : IsLibraryOf library d.leaks
   pub circuit : IsNetlistOf netlist d.circuit
-  pub total : sum_of d.leaks.cells d.circuit.insts ≡ Ok d.total
+  pub total : IsSum d.leaks.cells d.circuit.insts d.total
 
 -- the bytes make this design, and no other
 pub record IsTheDesign (library netlist : List ℕ) (d : Design) : Type 0 where
@@ -72,10 +75,11 @@ NetlistCause n (TooLarge Verilog) = 2 ^ 28 < length n
 NetlistCause n (BadText Verilog why place) = (length n ≤ 2 ^ 28) × NetlistTextCause n why place
 NetlistCause n _ = ⊥
 
--- the cause of the refusal of a design
-abbrev pub DesignCause : LeakTable → Circuit → Status → Type 0
-DesignCause t c (BadDesign e) = total_in t c.insts ≡ Err (BadDesign e)
-DesignCause t c _ = ⊥
+-- the cause of the refusal of a design: the first instance whose cell the library lacks, by its name; or else too many instances
+abbrev pub DesignCause : LeakTable → List RawInst → Status → Type 0
+DesignCause t insts (BadDesign (UnknownCell by)) = (k : ℕ) × IsFirstUnknown t.cells insts k × (by ≡ inst_name_at insts k)
+DesignCause t insts (BadDesign (TooMany what count)) = (what ≡ Instances) × AreTooMany t.cells insts count
+DesignCause t insts _ = ⊥
 
 -- the first refusal in the order of work: the library's; or the netlist's, where the library is accepted; or the design's, where
 -- both are
@@ -83,7 +87,7 @@ abbrev pub FirstCause : (library netlist : List ℕ) → Status → Type 0
 FirstCause l n s =
     LibraryCause l s
     ⊎ (((t : LeakTable) × IsLibraryOf l t × NetlistCause n s)
-    ⊎ ((t : LeakTable) × (c : Circuit) × IsLibraryOf l t × IsNetlistOf n c × DesignCause t c s))
+    ⊎ ((t : LeakTable) × (c : Circuit) × IsLibraryOf l t × IsNetlistOf n c × DesignCause t c.insts s))
 
 -- the bytes are refused so, first of all
 pub record IsRefused (library netlist : List ℕ) (s : Status) : Type 0 where

@@ -6,6 +6,7 @@ use Rattle.gs_lib.specs.Table.{LeakTable}
 use Rattle.gs_lib.specs.declared.error.LibErr.TheVariants.{Mem}
 use Rattle.gs_libtree.specs.Refusal.{IsLiberty}
 use Rattle.gs_libtree.specs.declared.tree.Node.{Node}
+use Rattle.gs_report.specs.Sum.{IsSum}
 use Rattle.gs_report.specs.Text as report
 use Rattle.gs_report.specs.declared.error.SumErr.{SumErr}
 use Rattle.gs_report.specs.declared.error.SumErr.TheVariants as sum
@@ -100,14 +101,16 @@ IsPlaced insts (sum.TooMany n) = Unit {0}
 abbrev pub IsOrLost : Status → Status → Type 0
 IsOrLost wanted s = (s ≡ OutOfMemory) ⊎ (s ≡ wanted)
 
--- the sum is refused so, or memory ran out
-abbrev pub SumRefuses : Result ℤ Status → Status → Type 0
-SumRefuses made s = (s ≡ OutOfMemory) ⊎ (made ≡ Err s)
+-- the leakages of the instances' cells have this sum alone
+pub record IsTheSum (t : LeakTable) (insts : List RawInst) (total : ℤ) : Type 0 where
+  pub is : IsSum t.cells insts total
+  pub one : (other : ℤ) → IsSum t.cells insts other → other ≡ total
+  pub accepted : total_in t insts ≡ Ok total
 
 -- the texts are those of a netlist and a library's leakage
 pub record Makes (t : LeakTable) (c : Circuit) (texts : Texts) : Type 0 where
   pub total : ℤ
-  pub is_total : total_in t c.insts ≡ Ok total
+  pub sum : IsTheSum t c.insts total
   pub sizes : texts.sizes.items ≡ sizes_text c.insts
   pub report : texts.report.items ≡ report.report_text total t.unit
   pub count : texts.instances ≡ length c.insts

@@ -1,7 +1,9 @@
 //! The texts that `size` writes, made before anything is stored.
-ghost use Rattle.std.specs.Prelude.{◌≡◌, ◌<◌, ◌≤◌, ◌^◌, IfOk, IfErr, Ok, length};
+ghost use Rattle.std.specs.Prelude.{◌≡◌, ◌<◌, ◌≤◌, ◌^◌, ℤ, IfOk, IfErr, length};
 ghost use Rattle.gs_top.specs.Design.{inst_name_at, sum_status, total_in};
-ghost use Rattle.gs_top.specs.Work.{IsOrLost, IsPlaced, Makes, SumRefuses};
+ghost use Rattle.gs_report.specs.Sum.{IsSum};
+ghost use Rattle.gs_top.specs.Accepted.{DesignCause};
+ghost use Rattle.gs_top.specs.Work.{IsOrLost, IsPlaced, IsTheSum, Makes, Refuses};
 ghost use Rattle.gs_top.specs.declared.status.LinkErr.{LinkErr};
 ghost use Rattle.gs_top.specs.declared.status.Status.{Status};
 
@@ -56,8 +58,9 @@ fn sum_status(alloc: Global, insts: &[RawInst], error: SumErr) -> Status
 
 /// The sum of the leakage over the instances.
 fn sum(alloc: Global, leaks: &Leaks, netlist: &Netlist) -> Result<Micro, Status>
-    ensures ok { IfOk result (λ m. total_in leaks.now netlist.now.insts ≡ Ok m) }
-    ensures err { IfErr result (SumRefuses (total_in leaks.now netlist.now.insts)) }
+    ensures ok { IfOk result (λ total. IsTheSum leaks.now netlist.now.insts total) }
+    ensures err { IfErr result (Refuses (total_in leaks.now netlist.now.insts) (DesignCause leaks.now netlist.now.insts)) }
+    ensures complete { (total : ℤ) → IsSum leaks.now.cells netlist.now.insts total → IfErr result (λ s. s ≡ Status.OutOfMemory) }
 {
     match sum_leakage(netlist, leaks) {
         Ok(total) => Ok(total),
@@ -69,7 +72,8 @@ fn sum(alloc: Global, leaks: &Leaks, netlist: &Netlist) -> Result<Micro, Status>
 pub(crate) fn make_texts(alloc: Global, leaks: &Leaks, netlist: &Netlist) -> Result<Texts, Status>
     requires { length netlist.now.insts ≤ 2 ^ 28 }
     ensures ok { IfOk result (λ texts. Makes leaks.now netlist.now texts) }
-    ensures err { IfErr result (SumRefuses (total_in leaks.now netlist.now.insts)) }
+    ensures err { IfErr result (Refuses (total_in leaks.now netlist.now.insts) (DesignCause leaks.now netlist.now.insts)) }
+    ensures complete { (total : ℤ) → IsSum leaks.now.cells netlist.now.insts total → IfErr result (λ s. s ≡ Status.OutOfMemory) }
 {
     let total = match sum(alloc, leaks, netlist) {
         Ok(total) => total,

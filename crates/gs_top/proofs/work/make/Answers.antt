@@ -5,7 +5,7 @@ use Rattle.gs_top.specs.Accepted.{IsNetlistOf, NetlistCause}
 use Rattle.gs_top.specs.Design.{netlist_of}
 use Rattle.gs_top.specs.Work.{IsTheNetlist, LoadRefuses}
 use Rattle.gs_top.specs.declared.status.Input.TheVariants.{Lib, Verilog}
-use Rattle.gs_top.proofs.Making.{library_lost, netlist_lost, made_of, sum_lost, sum_only_lost, lost_design}
+use Rattle.gs_top.proofs.Making.{library_lost, netlist_lost, made_of, sum_lost, sum_of_design, lost_to_memory, lost_design}
 use Rattle.gs_top.proofs.Reading.{if_ok, if_err}
 use Rattle.gs_top.proofs.work.make.Goals as goal
 
@@ -53,4 +53,4 @@ returns-clause-complete g c tells d h =
     let same = ap (λ o. unwrap_or o []) (c.in-Ok.ensures.stay c.args.job.now.verilog.now) in
     let circuit = c.in-Ok-load_netlist.netlist in
     let net = subst (λ b. IsTheNetlist b circuit) same (c.in-Ok-load_netlist.ensures.ok tells) in
-    if_err (sum_only_lost l n c.in-Ok.leaks (c.in-Ok.ensures.ok tells) circuit net d h) c.make_texts.result c.make_texts.ensures.err
+    if_err lost_to_memory c.make_texts.result (c.make_texts.ensures.complete d.total (sum_of_design l n c.in-Ok.leaks (c.in-Ok.ensures.ok tells) circuit net d h))

@@ -1,3 +1,4 @@
+use Rattle.gs_top.proofs.Making.{done_lost}
 use Rattle.gs_top.proofs.Storing.{leaves_stored, leaves_refused}
 use Rattle.gs_top.specs.Work.{the_job}
 use Rattle.gs_top.proofs.work.work.Goals as goal
@@ -9,3 +10,7 @@ returns-in-Ok-clause-leaves g c tells =
 pub returns-in-Err-clause-leaves : goal.returns-in-Err-clause-leaves
 returns-in-Err-clause-leaves g c tells =
     leaves_refused (the_job c.args.job.now) _ _ c.in-Err.ensures.stay c.in-Err.status (c.in-Err.ensures.err tells)
+
+pub returns-in-Err-clause-complete : goal.returns-in-Err-clause-complete
+returns-in-Err-clause-complete g c tells d h none =
+    done_lost (the_job c.args.job.now) _ _ none c.in-Err.status c.in-Err.ensures.cause (c.in-Err.ensures.complete tells d h)
