@@ -1,8 +1,8 @@
 //! The report of a run: the true leakage of a netlist, and the text that says it.
 //!
-//! - [`sum_leakage`] adds the leakage of the cells that a netlist's instances name. Its one clause says its answer for every
-//!   netlist and every table: the exact sum in whole millionths, or the first instance whose cell the library lacks, or that
-//!   there are too many instances (`sum_of` in `specs/Sum.antt`).
+//! - [`sum_leakage`] adds the leakage of the cells that a netlist's instances name. Its contract says its answer both ways, for every
+//!   netlist and every library (`specs/Sum.antt`): the exact sum in whole millionths (`IsSum`), or the first instance whose
+//!   cell the library lacks, or else that there are too many instances (`HasCause`).
 //! - [`write_leak_report`] makes the report's text (`report_text` in `specs/Text.antt`).
 //!
 //! The sum is one pass over the instances with one look into the library's ordered map for each, and takes no memory. The text
