@@ -23,6 +23,7 @@ impl Model for Bytes {
 }
 
 impl Bytes {
+    /// No bytes. It takes no memory.
     pub fn new(alloc: Global) -> Bytes
         ensures { result ≡ [] }
     {
@@ -31,18 +32,21 @@ impl Bytes {
         }
     }
 
+    /// These bytes. It takes no memory.
     pub fn from_vec(bytes: Vec<u8>) -> Bytes
         ensures { result ≡ bytes.items }
     {
         Bytes { bytes }
     }
 
+    /// The bytes as a `Vec`. It takes no memory.
     pub fn into_vec(self) -> Vec<u8>
         ensures { result.items ≡ self }
     {
         self.bytes
     }
 
+    /// The bytes, in order.
     pub fn as_slice(&self) -> &[u8]
         ensures { result.now ≡ self.now }
     {
@@ -80,18 +84,21 @@ impl Model for Numbers {
 }
 
 impl Numbers {
+    /// These numbers. It takes no memory.
     pub fn from_vec(numbers: Vec<u64>) -> Numbers
         ensures { result ≡ numbers.items }
     {
         Numbers { numbers }
     }
 
+    /// The numbers as a `Vec`. It takes no memory.
     pub fn into_vec(self) -> Vec<u64>
         ensures { result.items ≡ self }
     {
         self.numbers
     }
 
+    /// Whether the number is among them. It looks through the list.
     pub fn contains(&self, number: u64) -> bool
         ensures { result ≡ list_any (λ n. n == number) self.now }
     {
@@ -122,6 +129,7 @@ impl Model for Failures {
 }
 
 impl Failures {
+    /// No failed call. It takes no memory.
     pub fn new(alloc: Global) -> Failures
         ensures { result ≡ [] }
     {
@@ -130,12 +138,14 @@ impl Failures {
         }
     }
 
+    /// These failed calls. It takes no memory.
     pub fn from_vec(failures: Vec<Failure>) -> Failures
         ensures { result ≡ failures.items }
     {
         Failures { failures }
     }
 
+    /// The failed calls as a `Vec`. It takes no memory.
     pub fn into_vec(self) -> Vec<Failure>
         ensures { result.items ≡ self }
     {
@@ -179,6 +189,7 @@ impl Model for FileList {
 }
 
 impl FileList {
+    /// No files. It takes no memory.
     pub fn new(alloc: Global) -> FileList
         ensures { result ≡ [] }
     {
@@ -187,6 +198,7 @@ impl FileList {
         }
     }
 
+    /// These files, whose names differ. It takes no memory.
     pub fn from_vec(files: Vec<StoredFile>) -> FileList
         requires { names_differ files.items ≡ true }
         ensures { result ≡ files.items }
@@ -194,6 +206,7 @@ impl FileList {
         FileList { files }
     }
 
+    /// The files as a `Vec`. It takes no memory.
     pub fn into_vec(self) -> Vec<StoredFile>
         ensures files { result.items ≡ self }
         ensures distinct { names_differ result.items ≡ true }

@@ -18,7 +18,7 @@ pub struct Spot {
     pub span: Micro,
 }
 
-// Queries are held to 0 .. 2^36.
+/// The query, held to 0 .. 2^36 millionths.
 pub fn hold_query(query: Micro) -> Micro
     ensures value { result ≡ held_query query }
     ensures small { nat_abs result ≤ 2 ^ 36 }

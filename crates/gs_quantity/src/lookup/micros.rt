@@ -19,6 +19,7 @@ impl Model for Micros {
 }
 
 impl Micros {
+    /// These quantities. It takes no memory.
     pub fn new(items: Vec<Micro>) -> Self
         ensures { result ≡ items.items }
     {
@@ -33,18 +34,21 @@ impl Micros {
         items
     }
 
+    /// The quantities, in order.
     pub fn as_slice(&self) -> &[Micro]
         ensures { result.now ≡ self.now }
     {
         self.items.as_slice()
     }
 
+    /// How many quantities there are.
     pub fn len(&self) -> usize
         ensures { result ≡ length self.now }
     {
         self.items.len()
     }
 
+    /// Whether there are none.
     pub fn is_empty(&self) -> bool
         ensures { result ≡ (length self.now == 0) }
     {

@@ -19,6 +19,7 @@ impl Model for Wide {
     ghost inverse = { λ z. record { 0 = z } };
 }
 
+/// The product of two quantities.
 pub fn product(a: Micro, b: Micro) -> Wide
     ensures value { result ≡ a *ℤ b }
     ensures small { nat_abs a ≤ 2 ^ 37 → nat_abs b ≤ 2 ^ 37 → nat_abs result ≤ 2 ^ 74 }
@@ -27,6 +28,7 @@ pub fn product(a: Micro, b: Micro) -> Wide
 }
 
 impl Wide {
+    /// Twice the number.
     pub fn doubled(self) -> Wide
         requires { nat_abs self ≤ 2 ^ 120 }
         ensures value { result ≡ pos 2 *ℤ self }
@@ -35,18 +37,21 @@ impl Wide {
         Wide(2 * self.0)
     }
 
+    /// Whether it is below 0.
     pub fn is_negative(self) -> bool
         ensures { result ≡ int_lt self (pos 0) }
     {
         self.0 < 0
     }
 
+    /// The number without its sign.
     pub fn magnitude(self) -> u128
         ensures { result ≡ nat_abs self }
     {
         self.0.unsigned_abs()
     }
 
+    /// A whole number.
     pub fn from_whole(whole: u128) -> Wide
         requires { whole < 2 ^ 127 }
         ensures { result ≡ pos whole }
@@ -62,6 +67,7 @@ impl Wide {
         Wide(self.0.div_euclid(by.0))
     }
 
+    /// The sum of two.
     pub fn plus(self, other: Wide) -> Wide
         requires left { nat_abs self ≤ 2 ^ 120 }
         requires right { nat_abs other ≤ 2 ^ 120 }
@@ -71,6 +77,7 @@ impl Wide {
         Wide(self.0 + other.0)
     }
 
+    /// The product with a quantity.
     pub fn times(self, by: Micro) -> Wide
         requires left { nat_abs self ≤ 2 ^ 75 }
         requires right { nat_abs by ≤ 2 ^ 37 }
