@@ -1,5 +1,6 @@
 pub mod Accepting
 pub mod Form
+pub mod Keeping
 pub mod Making
 pub mod Names
 pub mod Reading

@@ -77,6 +77,23 @@ LeavesOf (Some job) old new status = JobLeaves job old new status
 abbrev pub Leaves : List (List ℕ) → Files → Files → Status → Type 0
 Leaves words old new status = LeavesOf (job_of words) old new status
 
+-- which files stay after a job, on every shelf: all after a refusal, all but the sizes where these could not be stored, else all but
+-- the two that the job writes
+abbrev pub JobKeeps : Job → Files → Files → Status → Type 0
+JobKeeps job old new (Written instances) = OtherFilesStay job old new
+JobKeeps job old new (WriteFault Sizes) = OthersStay job.sizes old new
+JobKeeps job old new (WriteFault file) = OtherFilesStay job old new
+JobKeeps job old new OutOfMemory = OtherFilesStay job old new
+JobKeeps job old new _ = AllStay old new
+
+abbrev pub KeepsOf : Option Job → Files → Files → Status → Type 0
+KeepsOf None old new status = AllStay old new
+KeepsOf (Some job) old new status = JobKeeps job old new status
+
+-- which files stay after a run with these words
+abbrev pub Keeps : List (List ℕ) → Files → Files → Status → Type 0
+Keeps words old new status = KeepsOf (job_of words) old new status
+
 -- the name of a file that a job reads, and of what it writes; the console has none
 abbrev pub input_of : Job → Input → List ℕ
 input_of job Lib = job.lib

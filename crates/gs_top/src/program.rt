@@ -5,7 +5,7 @@ ghost use Rattle.gs_shelf.specs.Files.{AllStay};
 ghost use Rattle.gs_shelf.specs.declared.calls.Op.TheVariants.{Say};
 ghost use Rattle.gs_top.specs.Line.{unsaid, Ended, SaidAs};
 ghost use Rattle.gs_top.specs.Refusal.{first_refusal};
-ghost use Rattle.gs_top.specs.Run.{Leaves, Says, Causes, IsAccepted, NoneRose, IsDone, AnswersRefusal};
+ghost use Rattle.gs_top.specs.Run.{Keeps, Leaves, Says, Causes, IsAccepted, NoneRose, IsDone, AnswersRefusal};
 ghost use Rattle.gs_top.specs.declared.status.Status.{Status};
 
 use crate::job::read_job;
@@ -59,6 +59,7 @@ fn say<H: Shelf>(alloc: Global, shelf: &mut H, status: Status) -> Status
 fn act<H: Shelf>(alloc: Global, words: &Words, shelf: &mut H) -> Status
     ensures leaves { H.tells → Leaves words.now (H.files shelf.old) (H.files shelf.new) result }
     ensures complete { H.tells → IsAccepted words.now (H.files shelf.old) → NoneRose (H.faults shelf.old) (H.faults shelf.new) → IsDone result }
+    ensures kept { Keeps words.now (H.files shelf.old) (H.files shelf.new) result }
     ensures cause { Causes words.now (H.faults shelf.old) (H.faults shelf.new) result }
     ensures said { H.said shelf.new ≡ H.said shelf.old }
     ensures later { NoneFell (H.faults shelf.old) (H.faults shelf.new) }
@@ -76,6 +77,8 @@ fn act<H: Shelf>(alloc: Global, words: &Words, shelf: &mut H) -> Status
 pub fn run<H: Shelf>(alloc: Global, words: &Words, shelf: &mut H) -> Status
     // What the files hold after each status, on a shelf that tells.
     ensures leaves { H.tells → Leaves words.now (H.files shelf.old) (H.files shelf.new) result }
+    // Which files stay after each status, on every shelf.
+    ensures kept { Keeps words.now (H.files shelf.old) (H.files shelf.new) result }
     // What was said with each status, on a shelf that tells.
     ensures said { H.tells → Says words.now (H.files shelf.old) (H.files shelf.new) (H.faults shelf.old) (H.faults shelf.new) (H.said shelf.old) (H.said shelf.new) result }
     // What stands behind each status, on every shelf.

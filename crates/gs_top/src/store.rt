@@ -3,6 +3,7 @@ ghost use Rattle.std.specs.Prelude.{◌≡◌, ◌≢◌, Some, IfErr, OnErr, On
 ghost use Rattle.gs_shelf.specs.Faults.{NoneFell};
 ghost use Rattle.gs_shelf.specs.Files.{HoldsPart, OthersStay};
 ghost use Rattle.gs_shelf.specs.declared.calls.Op.TheVariants.{Store};
+ghost use Rattle.gs_top.specs.Run.{JobKeeps};
 ghost use Rattle.gs_top.specs.Work.{StoreCauses, StoreFails, StoreLeaves, the_job};
 
 use crate::job::SizeJob;
@@ -42,6 +43,7 @@ pub(crate) fn store_texts<H: Shelf>(
 ) -> Status
     requires differ { job.now.sizes.now ≢ job.now.report.now }
     ensures leaves { H.tells → StoreLeaves (the_job job.now) (H.files shelf.old) (H.files shelf.new) texts.now.sizes.items texts.now.report.items texts.now.instances result }
+    ensures kept { JobKeeps (the_job job.now) (H.files shelf.old) (H.files shelf.new) result }
     ensures cause { StoreCauses (the_job job.now) (H.faults shelf.old) (H.faults shelf.new) result }
     ensures said { H.said shelf.new ≡ H.said shelf.old }
     ensures later { NoneFell (H.faults shelf.old) (H.faults shelf.new) }

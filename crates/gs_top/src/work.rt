@@ -4,7 +4,7 @@ ghost use Rattle.gs_shelf.specs.Faults.{NoneFell};
 ghost use Rattle.gs_shelf.specs.Files.{content, AllStay};
 ghost use Rattle.gs_top.specs.Accepted.{IsDesignOf};
 ghost use Rattle.gs_top.specs.Design.{Design};
-ghost use Rattle.gs_top.specs.Run.{JobLeaves, JobCauses, NoneRose, IsDone};
+ghost use Rattle.gs_top.specs.Run.{JobKeeps, JobLeaves, JobCauses, NoneRose, IsDone};
 ghost use Rattle.gs_top.specs.Work.{IsLostDesign, MadeOf, MakeCauses, MakeRefuses, the_job};
 
 use crate::job::SizeJob;
@@ -42,6 +42,7 @@ pub(crate) fn work<H: Shelf>(alloc: Global, shelf: &mut H, job: &SizeJob<'_>) ->
     requires differ { job.now.sizes.now ≢ job.now.report.now }
     ensures leaves { H.tells → JobLeaves (the_job job.now) (H.files shelf.old) (H.files shelf.new) result }
     ensures complete { H.tells → (d : Design) → IsDesignOf (content (H.files shelf.old) job.now.lib.now) (content (H.files shelf.old) job.now.verilog.now) d → NoneRose (H.faults shelf.old) (H.faults shelf.new) → IsDone result }
+    ensures kept { JobKeeps (the_job job.now) (H.files shelf.old) (H.files shelf.new) result }
     ensures cause { JobCauses (the_job job.now) (H.faults shelf.old) (H.faults shelf.new) result }
     ensures said { H.said shelf.new ≡ H.said shelf.old }
     ensures later { NoneFell (H.faults shelf.old) (H.faults shelf.new) }

@@ -1,4 +1,5 @@
 use Rattle.gs_top.specs.Job.{job_of}
+use Rattle.gs_top.proofs.Keeping.{keeps_ended}
 use Rattle.gs_top.proofs.Refused.{refused}
 use Rattle.gs_top.proofs.Said.{leaves_ended, says_ended, causes_ended, none_early, done_ended}
 use Rattle.gs_top.proofs.program.run.Goals as goal
@@ -22,3 +23,7 @@ returns-clause-complete g c tells accepted none =
 pub returns-clause-refused : goal.returns-clause-refused
 returns-clause-refused g c tells s e =
     refused (job_of c.args.words.now) _ _ _ _ s _ (leaves_ended (job_of c.args.words.now) _ _ _ _ _ _ _ c.say.ensures.stay (c.act-status.ensures.leaves tells) c.say.ensures.ended) (causes_ended _ _ _ c.act-status.ensures.later c.say.ensures.later (job_of c.args.words.now) _ _ c.act-status.ensures.cause c.say.ensures.ended) e
+
+pub returns-clause-kept : goal.returns-clause-kept
+returns-clause-kept g c =
+    keeps_ended (job_of c.args.words.now) _ _ _ _ _ _ _ c.say.ensures.stay c.act-status.ensures.kept c.say.ensures.ended
