@@ -1,4 +1,5 @@
 pub mod Accepting
+pub mod Exact
 pub mod Form
 pub mod Keeping
 pub mod Making

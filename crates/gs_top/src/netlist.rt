@@ -1,11 +1,13 @@
 //! Reading the netlist.
-ghost use Rattle.std.specs.Prelude.{◌≡◌, ◌^◌, ◌≤◌, IfOk, IfErr, length};
+ghost use Rattle.std.specs.Prelude.{◌≡◌, ◌^◌, ◌≤◌, IfOk, IfErr, MatchResult, length};
 ghost use Rattle.gs_shelf.specs.Faults.{NoneFell};
 ghost use Rattle.gs_shelf.specs.Files.{content, AllStay};
 ghost use Rattle.gs_shelf.specs.declared.calls.Op.TheVariants.{Fetch};
 ghost use Rattle.gs_verilog.specs.Circuit.{Circuit};
 ghost use Rattle.gs_top.specs.Accepted.{IsNetlistOf, NetlistCause};
 ghost use Rattle.gs_top.specs.Design.{netlist_of, verilog_status};
+ghost use Rattle.gs_top.specs.Run.{AnswersRefusal};
+ghost use Rattle.gs_top.specs.declared.status.Status.{Status};
 ghost use Rattle.gs_top.specs.Work.{IsLost, IsTheNetlist, LoadCauses, LoadRefuses, Refuses};
 ghost use Rattle.gs_top.specs.declared.status.Input.{Input};
 
@@ -39,6 +41,7 @@ fn read_text(alloc: Global, bytes: &[u8]) -> Result<Netlist, Status>
     ensures few { IfOk result (λ c. length c.insts ≤ 2 ^ 28) }
     ensures err { IfErr result (Refuses (netlist_of bytes.now) (NetlistCause bytes.now)) }
     ensures complete { (c : Circuit) → IsNetlistOf bytes.now c → IfErr result (λ s. s ≡ Status.OutOfMemory) }
+    ensures exact { (s : Status) → NetlistCause bytes.now s → MatchResult result (λ c. ⊥) (AnswersRefusal s) }
 {
     match read_netlist(alloc, bytes) {
         Ok(netlist) => Ok(netlist),
@@ -55,6 +58,7 @@ pub(crate) fn load_netlist<H: Shelf>(
     ensures ok { H.tells → IfOk result (λ c. IsTheNetlist (content (H.files shelf.old) name.now) c) }
     ensures few { IfOk result (λ c. length c.insts ≤ 2 ^ 28) }
     ensures err { H.tells → IfErr result (LoadRefuses Input.Verilog (netlist_of (content (H.files shelf.old) name.now)) (NetlistCause (content (H.files shelf.old) name.now))) }
+    ensures exact { H.tells → (s : Status) → NetlistCause (content (H.files shelf.old) name.now) s → MatchResult result (λ c. ⊥) (AnswersRefusal s) }
     ensures complete { H.tells → (c : Circuit) → IsNetlistOf (content (H.files shelf.old) name.now) c → IfErr result (IsLost Input.Verilog) }
     ensures cause { IfErr result (LoadCauses Input.Verilog (H.faults shelf.old Fetch name.now) (H.faults shelf.new Fetch name.now)) }
     ensures stay { AllStay (H.files shelf.old) (H.files shelf.new) }

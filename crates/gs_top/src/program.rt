@@ -1,8 +1,10 @@
 //! A whole run: the work that the words ask for, and the line of its status.
 ghost use Rattle.std.specs.Prelude.{◌≡◌, ℕ, [], List};
 ghost use Rattle.gs_shelf.specs.Faults.{NoneFell};
-ghost use Rattle.gs_shelf.specs.Files.{AllStay};
+ghost use Rattle.gs_shelf.specs.Files.{AllStay, content};
 ghost use Rattle.gs_shelf.specs.declared.calls.Op.TheVariants.{Say};
+ghost use Rattle.gs_top.specs.Accepted.{FirstCause};
+ghost use Rattle.gs_top.specs.Job.{Job, job_of};
 ghost use Rattle.gs_top.specs.Line.{unsaid, Ended, SaidAs};
 ghost use Rattle.gs_top.specs.Refusal.{first_refusal};
 ghost use Rattle.gs_top.specs.Run.{Keeps, Leaves, Says, Causes, IsAccepted, NoneRose, IsDone, AnswersRefusal};
@@ -59,6 +61,7 @@ fn say<H: Shelf>(alloc: Global, shelf: &mut H, status: Status) -> Status
 fn act<H: Shelf>(alloc: Global, words: &Words, shelf: &mut H) -> Status
     ensures leaves { H.tells → Leaves words.now (H.files shelf.old) (H.files shelf.new) result }
     ensures complete { H.tells → IsAccepted words.now (H.files shelf.old) → NoneRose (H.faults shelf.old) (H.faults shelf.new) → IsDone result }
+    ensures exact { H.tells → (job : Job) → job_of words.now ≡ Some job → (s : Status) → FirstCause (content (H.files shelf.old) job.lib) (content (H.files shelf.old) job.verilog) s → AnswersRefusal s result }
     ensures kept { Keeps words.now (H.files shelf.old) (H.files shelf.new) result }
     ensures cause { Causes words.now (H.faults shelf.old) (H.faults shelf.new) result }
     ensures said { H.said shelf.new ≡ H.said shelf.old }
@@ -86,6 +89,8 @@ pub fn run<H: Shelf>(alloc: Global, words: &Words, shelf: &mut H) -> Status
     // Words of the form, a library and a netlist in their grammars and limits, each instance's cell in the library, fewer than 2^21
     // instances, and no fault: success, or want of memory.
     ensures complete { H.tells → IsAccepted words.now (H.files shelf.old) → NoneRose (H.faults shelf.old) (H.faults shelf.new) → IsDone result }
+    // Where a refusal is the first by its cause, it is the answer, but for a fault of reading or want of memory.
+    ensures exact { H.tells → (job : Job) → job_of words.now ≡ Some job → (s : Status) → FirstCause (content (H.files shelf.old) job.lib) (content (H.files shelf.old) job.verilog) s → AnswersRefusal s result }
     // The first refusal that the words and the bytes decide is the answer, but for a fault of reading or want of memory.
     ensures refused { H.tells → (refusal : Status) → first_refusal words.now (H.files shelf.old) ≡ Some refusal → AnswersRefusal refusal result }
     // No count of faults falls.

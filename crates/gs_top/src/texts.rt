@@ -1,8 +1,9 @@
 //! The texts that `size` writes, made before anything is stored.
-ghost use Rattle.std.specs.Prelude.{◌≡◌, ◌<◌, ◌≤◌, ◌^◌, ℤ, IfOk, IfErr, length};
+ghost use Rattle.std.specs.Prelude.{◌≡◌, ◌<◌, ◌≤◌, ◌^◌, ℤ, IfOk, IfErr, MatchResult, length};
 ghost use Rattle.gs_top.specs.Design.{inst_name_at, sum_status, total_in};
 ghost use Rattle.gs_report.specs.Sum.{IsSum};
 ghost use Rattle.gs_top.specs.Accepted.{DesignCause};
+ghost use Rattle.gs_top.specs.Run.{AnswersRefusal};
 ghost use Rattle.gs_top.specs.Work.{IsOrLost, IsPlaced, IsTheSum, Makes, Refuses};
 ghost use Rattle.gs_top.specs.declared.status.LinkErr.{LinkErr};
 ghost use Rattle.gs_top.specs.declared.status.Status.{Status};
@@ -61,6 +62,7 @@ fn sum(alloc: Global, leaks: &Leaks, netlist: &Netlist) -> Result<Micro, Status>
     ensures ok { IfOk result (λ total. IsTheSum leaks.now netlist.now.insts total) }
     ensures err { IfErr result (Refuses (total_in leaks.now netlist.now.insts) (DesignCause leaks.now netlist.now.insts)) }
     ensures complete { (total : ℤ) → IsSum leaks.now.cells netlist.now.insts total → IfErr result (λ s. s ≡ Status.OutOfMemory) }
+    ensures exact { (s : Status) → DesignCause leaks.now netlist.now.insts s → MatchResult result (λ x. ⊥) (AnswersRefusal s) }
 {
     match sum_leakage(netlist, leaks) {
         Ok(total) => Ok(total),
@@ -74,6 +76,7 @@ pub(crate) fn make_texts(alloc: Global, leaks: &Leaks, netlist: &Netlist) -> Res
     ensures ok { IfOk result (λ texts. Makes leaks.now netlist.now texts) }
     ensures err { IfErr result (Refuses (total_in leaks.now netlist.now.insts) (DesignCause leaks.now netlist.now.insts)) }
     ensures complete { (total : ℤ) → IsSum leaks.now.cells netlist.now.insts total → IfErr result (λ s. s ≡ Status.OutOfMemory) }
+    ensures exact { (s : Status) → DesignCause leaks.now netlist.now.insts s → MatchResult result (λ x. ⊥) (AnswersRefusal s) }
 {
     let total = match sum(alloc, leaks, netlist) {
         Ok(total) => total,

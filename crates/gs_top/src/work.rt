@@ -1,10 +1,11 @@
 //! The work of `size`, without what it says: reading, then making all texts, then storing them.
-ghost use Rattle.std.specs.Prelude.{◌≡◌, ◌≢◌, IfOk, IfErr};
+ghost use Rattle.std.specs.Prelude.{◌≡◌, ◌≢◌, IfOk, IfErr, MatchResult};
 ghost use Rattle.gs_shelf.specs.Faults.{NoneFell};
 ghost use Rattle.gs_shelf.specs.Files.{content, AllStay};
-ghost use Rattle.gs_top.specs.Accepted.{IsDesignOf};
+ghost use Rattle.gs_top.specs.Accepted.{FirstCause, IsDesignOf};
 ghost use Rattle.gs_top.specs.Design.{Design};
-ghost use Rattle.gs_top.specs.Run.{JobKeeps, JobLeaves, JobCauses, NoneRose, IsDone};
+ghost use Rattle.gs_top.specs.Run.{AnswersRefusal, JobKeeps, JobLeaves, JobCauses, NoneRose, IsDone};
+ghost use Rattle.gs_top.specs.declared.status.Status.{Status};
 ghost use Rattle.gs_top.specs.Work.{IsLostDesign, MadeOf, MakeCauses, MakeRefuses, the_job};
 
 use crate::job::SizeJob;
@@ -21,6 +22,7 @@ fn make<H: Shelf>(alloc: Global, shelf: &mut H, job: &SizeJob<'_>) -> Result<Tex
     ensures ok { H.tells → IfOk result (λ texts. MadeOf (content (H.files shelf.old) job.now.lib.now) (content (H.files shelf.old) job.now.verilog.now) texts) }
     ensures err { H.tells → IfErr result (MakeRefuses (content (H.files shelf.old) job.now.lib.now) (content (H.files shelf.old) job.now.verilog.now)) }
     ensures complete { H.tells → (d : Design) → IsDesignOf (content (H.files shelf.old) job.now.lib.now) (content (H.files shelf.old) job.now.verilog.now) d → IfErr result IsLostDesign }
+    ensures exact { H.tells → (s : Status) → FirstCause (content (H.files shelf.old) job.now.lib.now) (content (H.files shelf.old) job.now.verilog.now) s → MatchResult result (λ texts. ⊥) (AnswersRefusal s) }
     ensures cause { IfErr result (MakeCauses (the_job job.now) (H.faults shelf.old) (H.faults shelf.new)) }
     ensures stay { AllStay (H.files shelf.old) (H.files shelf.new) }
     ensures said { H.said shelf.new ≡ H.said shelf.old }
@@ -42,6 +44,7 @@ pub(crate) fn work<H: Shelf>(alloc: Global, shelf: &mut H, job: &SizeJob<'_>) ->
     requires differ { job.now.sizes.now ≢ job.now.report.now }
     ensures leaves { H.tells → JobLeaves (the_job job.now) (H.files shelf.old) (H.files shelf.new) result }
     ensures complete { H.tells → (d : Design) → IsDesignOf (content (H.files shelf.old) job.now.lib.now) (content (H.files shelf.old) job.now.verilog.now) d → NoneRose (H.faults shelf.old) (H.faults shelf.new) → IsDone result }
+    ensures exact { H.tells → (s : Status) → FirstCause (content (H.files shelf.old) job.now.lib.now) (content (H.files shelf.old) job.now.verilog.now) s → AnswersRefusal s result }
     ensures kept { JobKeeps (the_job job.now) (H.files shelf.old) (H.files shelf.new) result }
     ensures cause { JobCauses (the_job job.now) (H.faults shelf.old) (H.faults shelf.new) result }
     ensures said { H.said shelf.new ≡ H.said shelf.old }

@@ -1,4 +1,5 @@
 use Rattle.gs_top.specs.Job.{job_of}
+use Rattle.gs_top.proofs.Exact.{exact_ended}
 use Rattle.gs_top.proofs.Keeping.{keeps_ended}
 use Rattle.gs_top.proofs.Refused.{refused}
 use Rattle.gs_top.proofs.Said.{leaves_ended, says_ended, causes_ended, none_early, done_ended}
@@ -27,3 +28,7 @@ returns-clause-refused g c tells s e =
 pub returns-clause-kept : goal.returns-clause-kept
 returns-clause-kept g c =
     keeps_ended (job_of c.args.words.now) _ _ _ _ _ _ _ c.say.ensures.stay c.act-status.ensures.kept c.say.ensures.ended
+
+pub returns-clause-exact : goal.returns-clause-exact
+returns-clause-exact g c tells job form s h =
+    exact_ended _ _ s _ _ _ _ h (c.act-status.ensures.exact tells job form s h) c.say.ensures.ended

@@ -1,6 +1,7 @@
 use Rattle.std.proofs.Common.{sym, ap, subst}
 use Rattle.gs_top.specs.Design.{refused_as, sum_status}
 use Rattle.gs_top.specs.Work.{IsOrLost}
+use Rattle.gs_top.proofs.Exact.{summed_exact, unsummed_exact}
 use Rattle.gs_top.proofs.Sums.{same_total, not_both, sum_refuses}
 use Rattle.gs_top.proofs.texts.sum.Goals as goal
 
@@ -19,3 +20,11 @@ returns-in-Err-clause-err c =
 
 pub returns-in-Err-clause-complete : goal.returns-in-Err-clause-complete
 returns-in-Err-clause-complete c total h = absurd (not_both c.in-Err.error total (c.in-Err.ensures.only total h))
+
+pub returns-in-Ok-clause-exact : goal.returns-in-Ok-clause-exact
+returns-in-Ok-clause-exact c = summed_exact c.args.leaks.now c.args.netlist.now.insts c.in-Ok.total c.in-Ok.ensures.exact
+
+pub returns-in-Err-clause-exact : goal.returns-in-Err-clause-exact
+returns-in-Err-clause-exact c =
+    let is = subst (λ i. IsOrLost (sum_status i c.in-Err.error) c.sum_status.result) c.insts.ensures.value c.sum_status.ensures in
+    unsummed_exact c.args.leaks.now c.args.netlist.now.insts c.in-Err.error c.sum_status.result c.in-Err.ensures.exact is

@@ -22,3 +22,6 @@ returns-in-Ok-clause-kept g c =
 
 pub returns-in-Err-clause-kept : goal.returns-in-Err-clause-kept
 returns-in-Err-clause-kept g c = keeps_all (the_job c.args.job.now) _ _ c.in-Err.ensures.stay c.in-Err.status
+
+pub returns-in-Ok-clause-exact : goal.returns-in-Ok-clause-exact
+returns-in-Ok-clause-exact g c tells s h = absurd (c.in-Ok.ensures.exact tells s h)
