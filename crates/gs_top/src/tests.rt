@@ -31,21 +31,24 @@ fn words_of(alloc: Global, texts: &[&str]) -> Result<Words, Mem> {
     Ok(words)
 }
 
+/// The words of a command in the form of `size`, with these files.
+fn form_of(
+    alloc: Global,
+    command: &str,
+    inputs: [&str; 2],
+    outputs: [&str; 2],
+) -> Result<Words, Mem> {
+    let [lib, verilog] = inputs;
+    let [sizes, report] = outputs;
+    let mut words = words_of(alloc, &[command, "--lib", lib, "--verilog", verilog])?;
+    for text in ["--sizes", sizes, "--report", report] {
+        words.add(text)?;
+    }
+    Ok(words)
+}
+
 fn size_words(alloc: Global) -> Result<Words, Mem> {
-    words_of(
-        alloc,
-        &[
-            "size",
-            "--lib",
-            "n.lib",
-            "--verilog",
-            "n.v",
-            "--sizes",
-            "n.sizes",
-            "--report",
-            "n.rpt",
-        ],
-    )
+    form_of(alloc, "size", ["n.lib", "n.v"], ["n.sizes", "n.rpt"])
 }
 
 /// The library as `n.lib`, the netlist as `n.v`, and two files from before.
@@ -277,17 +280,21 @@ fn fails_so(
 }
 
 #[test]
-fn each_call_fails_in_turn(rt: HostRuntime) -> Result<(), Fail> {
-    let alloc = rt.alloc();
+fn each_fetch_of_the_library_fails(rt: HostRuntime) -> Result<(), Fail> {
     for k in [0, 1] {
-        let ended = fails_so(alloc, k, "cannot read library\n", "before", "earlier")?;
+        let ended = fails_so(rt.alloc(), k, "cannot read library\n", "before", "earlier")?;
         assert!(rt;
             matches!(ended, Some(Status::ReadFault { file: Input::Lib })),
             "failing {k}"
         );
     }
+    Ok(())
+}
+
+#[test]
+fn each_fetch_of_the_netlist_fails(rt: HostRuntime) -> Result<(), Fail> {
     for k in [2, 3] {
-        let ended = fails_so(alloc, k, "cannot read netlist\n", "before", "earlier")?;
+        let ended = fails_so(rt.alloc(), k, "cannot read netlist\n", "before", "earlier")?;
         assert!(rt;
             matches!(
                 ended,
@@ -298,6 +305,12 @@ fn each_call_fails_in_turn(rt: HostRuntime) -> Result<(), Fail> {
             "failing {k}"
         );
     }
+    Ok(())
+}
+
+#[test]
+fn each_store_fails(rt: HostRuntime) -> Result<(), Fail> {
+    let alloc = rt.alloc();
     let sizes = fails_so(alloc, 4, "cannot write sizes\n", "before", "earlier")?;
     assert!(rt;
         matches!(
@@ -316,6 +329,12 @@ fn each_call_fails_in_turn(rt: HostRuntime) -> Result<(), Fail> {
             })
         )
     );
+    Ok(())
+}
+
+#[test]
+fn the_line_fails(rt: HostRuntime) -> Result<(), Fail> {
+    let alloc = rt.alloc();
     let console = fails_so(alloc, 6, "", CHAIN_SIZES, CHAIN_REPORT)?;
     assert!(rt;
         matches!(
@@ -331,59 +350,37 @@ fn each_call_fails_in_turn(rt: HostRuntime) -> Result<(), Fail> {
 }
 
 #[test]
-fn missing_files_and_other_words(rt: HostRuntime) -> Result<(), Fail> {
+fn files_are_missing(rt: HostRuntime) -> Result<(), Fail> {
     let alloc = rt.alloc();
     let mut shelf = shelf_with(alloc, FileList::new(alloc), &[], 9)?;
     let status = run(alloc, &size_words(alloc)?, &mut shelf);
     assert_eq!(rt; exit_of(&status), 4);
     assert!(rt; shelf.said.is(b"cannot read library\n"));
     assert!(rt; shelf.files.get(b"n.sizes").is_none());
-    let others: [&[&str]; 5] = [
-        &[],
-        &["size", "--verilog", "a", "--sizes", "b"],
-        &[
-            "resize",
-            "--lib",
-            "a",
-            "--verilog",
-            "b",
-            "--sizes",
-            "c",
-            "--report",
-            "d",
-        ],
-        &[
-            "size",
-            "--lib",
-            "a",
-            "--verilog",
-            "",
-            "--sizes",
-            "c",
-            "--report",
-            "d",
-        ],
-        &[
-            "size",
-            "--lib",
-            "a",
-            "--verilog",
-            "b",
-            "--sizes",
-            "c",
-            "--report",
-            "a",
-        ],
-    ];
-    for texts in others {
-        let mut shelf = shelf_with(alloc, FileList::new(alloc), &[1], 9)?;
-        let words = words_of(alloc, texts)?;
-        assert_eq!(rt; exit_of(&run(alloc, &words, &mut shelf)), 2);
-        let unsaid = run(alloc, &words, &mut shelf);
-        assert!(rt; matches!(unsaid, Status::Usage), "the line fails");
-        let line = b"usage: gate-sizer size, check, audit or gen, with options\n";
-        assert!(rt; shelf.said.is(line.as_slice()));
-    }
+    Ok(())
+}
+
+/// Whether the words make no job, also where the line can't be said.
+fn is_usage(alloc: Global, words: &Words) -> Result<bool, Fail> {
+    let mut shelf = shelf_with(alloc, FileList::new(alloc), &[1], 9)?;
+    let said = run(alloc, words, &mut shelf);
+    let unsaid = run(alloc, words, &mut shelf);
+    let line = b"usage: gate-sizer size, check, audit or gen, with options\n";
+    Ok(exit_of(&said) == 2 && exit_of(&unsaid) == 2 && shelf.said.is(line.as_slice()))
+}
+
+#[test]
+fn other_words(rt: HostRuntime) -> Result<(), Fail> {
+    let alloc = rt.alloc();
+    let short = words_of(alloc, &["size", "--verilog", "a", "--sizes", "b"])?;
+    assert!(rt; is_usage(alloc, &short)?);
+    let command = form_of(alloc, "resize", ["a", "b"], ["c", "d"])?;
+    assert!(rt; is_usage(alloc, &command)?);
+    let unnamed = form_of(alloc, "size", ["a", ""], ["c", "d"])?;
+    assert!(rt; is_usage(alloc, &unnamed)?);
+    let twice = form_of(alloc, "size", ["a", "b"], ["c", "a"])?;
+    assert!(rt; is_usage(alloc, &twice)?);
+    assert!(rt; is_usage(alloc, &Words::new(alloc))?);
     Ok(())
 }
 
