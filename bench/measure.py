@@ -1,9 +1,12 @@
-"""What the benchmarks share: building the proved program, running it, and reading its time and peak memory."""
+"""What the benchmarks share: building a proved program, running it, and reading its time and peak memory."""
 
 import os
+import shutil
 import subprocess
 import sys
+import tempfile
 import time
+from contextlib import contextmanager
 from pathlib import Path
 
 REPOSITORY = Path(__file__).resolve().parent.parent
@@ -54,3 +57,29 @@ def bound(text, is_held):
     """Prints whether a bound is held, and answers it."""
     print(f"{'held' if is_held else 'PASSED OVER'}: {text}")
     return is_held
+
+
+@contextmanager
+def small_program(name, crate, source):
+    """A proved program of one source file over a crate of the repository, built in a temporary folder."""
+    listed = dict(text.split(":", 1) for text in (REPOSITORY / "crates.txt").read_text().splitlines() if text[:1].isalpha())
+    needed, left = {}, [crate]
+    while left:
+        low = left.pop()
+        if low in listed:
+            needed[low] = listed[low]
+            left += listed[low].split()
+    with tempfile.TemporaryDirectory() as folder:
+        crates = Path(folder) / "crates"
+        for low in needed:
+            shutil.copytree(REPOSITORY / "crates" / low, crates / low, ignore=shutil.ignore_patterns("out", "must-fail"))
+        (crates / name / "src").mkdir(parents=True)
+        (crates / name / "src" / "main.rt").write_text(source)
+        lines = [f"{low}:{above}" for low, above in needed.items()] + [f"{name}: {crate} anyhow"]
+        (Path(folder) / "crates.txt").write_text("\n".join(lines) + "\n")
+        # It runs once as it is built; what counts are the runs after that.
+        made = subprocess.run(["rt", "run"], cwd=crates / name, capture_output=True, text=True)
+        built = crates / name / "out" / name
+        if not built.exists():
+            sys.exit(f"{name} was not built:\n{made.stdout[-3000:]}{made.stderr[-3000:]}")
+        yield built

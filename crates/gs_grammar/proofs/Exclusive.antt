@@ -1,9 +1,9 @@
 -- The places of refusals exclude each other, and whole texts: a list has at most one of them.
 
-use Rattle.std.proofs.Common.{◌≡◌, ℕ, ◌+◌, ◌<◌, ◌≤◌, List, ◌++◌, take, drop, refl, sym, ap, subst, ◌∙◌, Bool, true, false, nat_lt, arith, append_assoc, append-nil}
+use Rattle.std.proofs.Common.{◌≡◌, ℕ, ◌+◌, ◌<◌, ◌≤◌, List, ◌++◌, take, drop, refl, sym, subst, Bool, true, false, nat_lt, arith, append_assoc, append-nil}
 use Rattle.std.proofs.lemmas.Bool.Decides.{nat_tests}
 use Rattle.std.proofs.lemmas.List.{take-append-drop, take-take}
-use Rattle.gs_grammar.specs.Fronts.{IsFrontOf, IsFirstBad, IsFirstBroken, EndsEarly}
+use Rattle.gs_grammar.specs.Fronts.{IsFrontOf, IsFirstBad, IsFirstBroken}
 
 -- a front of a front is a front
 pub shorter : {T : Type 0} (P : List T → Type 0) (xs ys : List T) → IsFrontOf P (xs ++ ys) → IsFrontOf P xs

@@ -1,3 +1,5 @@
+pub mod Answers
 pub mod Exclusive
+pub mod Judged
 pub mod Refusals
 pub mod Runs

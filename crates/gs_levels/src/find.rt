@@ -5,9 +5,8 @@ ghost use Rattle.gs_levels.specs.Levels.{IsLeveled, IsOrder, IsCycle};
 ghost use Rattle.gs_levels.specs.Causes.{HasCause};
 
 use crate::cycle::backwards_from_least;
-use crate::graph::Graph;
+use crate::graph::{Graph, Numbers};
 use crate::incoming::find_incoming;
-use crate::numbers::Numbers;
 use crate::order::in_order;
 use crate::search::Search;
 use std::alloc::{AllocError, Global};

@@ -3,7 +3,7 @@
 ghost use Rattle.std.specs.Prelude.{◌≡◌, ◌↔◌, IsTrue, IfSome, IfNone};
 ghost use Rattle.gs_levels.specs.Graph.{IsWithin};
 
-pub use crate::edges::{Edge, Pairs};
+pub use crate::edges::{Edge, Numbers, Pairs};
 
 /// A directed graph. It may have an edge twice, and an edge from a node to itself.
 #[derive(Drop)]

@@ -20,14 +20,12 @@ mod edges;
 mod find;
 mod graph;
 mod incoming;
-mod numbers;
 mod order;
 mod progress;
 mod search;
 
 pub use find::{LevelErr, Leveled, levels};
-pub use graph::{Edge, Graph, Pairs};
-pub use numbers::Numbers;
+pub use graph::{Edge, Graph, Numbers, Pairs};
 
 #[cfg(test)]
 mod tests;

@@ -1,24 +1,27 @@
 -- The tree of a text has no more bytes than the text.
 
-use Rattle.std.proofs.Common.{◌≡◌, ℕ, ◌+◌, ◌-◌, ◌≤◌, List, [], ◌∷◌, ◌++◌, length, map, drop, length-take, refl, sym, ap, ◌∙◌, Result, Ok, Err, IfOk, MatchResult, arith}
+use Rattle.std.proofs.Common.{◌≡◌, ℕ, ◌+◌, ◌-◌, ◌≤◌, List, [], ◌∷◌, ◌++◌, length, map, drop, length-take, refl, sym, ap, ◌∙◌, Result, Ok, Err, IfOk, arith}
 use Rattle.std.specs.List.{flat_map, sum, sum_by, All}
 use Rattle.std.proofs.lemmas.List.Sums.{sum-map, sum_by-cons}
 use Rattle.std.proofs.lemmas.List.Elements.{All-head, All-tail}
+use Rattle.gs_drive.specs.Pieces.{HasPieces}
+use Rattle.gs_drive.specs.Tokens.{token_of as token_in, tokens_from}
+use Rattle.gs_drive.specs.declared.refusal.Refusal.{Refusal}
+use Rattle.gs_text.specs.declared.kinds.Style.TheVariants.{Lib}
 use Rattle.gs_text.specs.Pieces.{LiesIn, InOrder, text_of, opening_len, closing_len}
 use Rattle.gs_text.specs.declared.kinds.Piece.{Piece}
 use Rattle.gs_libtree.specs.Bytes.{item_bytes, group_bytes, bytes_of}
-use Rattle.gs_libtree.specs.Machine.{reading, Fails}
 use Rattle.gs_libtree.specs.Text.{LibText, value_text, next_text, args_texts, items_of, group_of}
-use Rattle.gs_libtree.specs.Token.{Token, word, quoted, closes, enters, leaves, semicolon, token, class_of, token_of}
+use Rattle.gs_libtree.specs.Token.{Token, word, quoted, closes, enters, leaves, semicolon, token, class_of, token_of, tokens}
 use Rattle.gs_libtree.specs.Tree.{Value, bare, in_quotes, Next, beside, after_comma, Args, no_args, some_args, Content, nothing, stray, simple, complex, subgroup, Tree, value_token, next_tokens, args_tokens, content_tokens, spelling}
-use Rattle.gs_libtree.specs.declared.error.LibTextErr.{LibTextErr}
+use Rattle.gs_libtree.specs.Refusal.{IsLiberty}
+use Rattle.gs_libtree.specs.declared.error.Rule.{Rule}
 use Rattle.gs_libtree.specs.declared.token.Class.{Class}
 use Rattle.gs_libtree.specs.declared.tree.Node.{Node}
 use Rattle.gs_libtree.specs.declared.tree.Item.{Item}
 use Rattle.gs_libtree.specs.declared.tree.Item.TheVariants.{Simple, Complex, Sub, rolls-Simple, rolls-Complex, rolls-Sub}
 use Rattle.gs_libtree.specs.declared.tree.Item.TheOpen.{Item-F}
 use Rattle.gs_libtree.specs.declared.tree.Item.TheFolds.{fold-Item, fold-roll-Item, fold-roll-Node}
-use Rattle.gs_libtree.proofs.Laws.{reading_text}
 
 abbrev bytes_of_item : Item → ℕ
 bytes_of_item = fold-Item ℕ ℕ item_bytes group_bytes
@@ -129,7 +132,7 @@ class_bytes Class.Word text = omega arith
 class_bytes Class.Quoted text = omega arith
 class_bytes _ text = omega arith
 
-piece_bytes : (bytes : List ℕ) (p : Piece) → LiesIn (length bytes) p → token_bytes (token_of bytes p) ≤ p.to - p.from
+piece_bytes : (bytes : List ℕ) (p : Piece) → LiesIn (length bytes) p → token_bytes (token_in token_of bytes p) ≤ p.to - p.from
 piece_bytes bytes p h =
     let text = text_of bytes p in
     let cut = length-take (p.to - closing_len p.kind - (p.from + opening_len p.kind)) (drop (p.from + opening_len p.kind) bytes) in
@@ -137,24 +140,27 @@ piece_bytes bytes p h =
 
 -- pieces in order, none before a place, have no more bytes than the text after it
 pieces_bytes : (bytes : List ℕ) (ps : List Piece) (at : ℕ) → All (LiesIn (length bytes)) ps → InOrder at ps → at ≤ length bytes
-    → at + tokens_bytes (map (token_of bytes) ps) ≤ length bytes
+    → at + tokens_bytes (map (token_in token_of bytes) ps) ≤ length bytes
 pieces_bytes bytes [] at all order le = omega arith
 pieces_bytes bytes (p ∷ ps) at all order le =
     let h : LiesIn (length bytes) p = All-head (LiesIn (length bytes)) p ps all in
-    let rest : p.to + tokens_bytes (map (token_of bytes) ps) ≤ length bytes =
+    let rest : p.to + tokens_bytes (map (token_in token_of bytes) ps) ≤ length bytes =
     pieces_bytes bytes ps p.to (All-tail (LiesIn (length bytes)) p ps all) order.1 h.within in
     omega (arith, h.some, order.0, piece_bytes bytes p h)
 
--- what is read of pieces in order has no more bytes than the text
-pub read_small : (bytes : List ℕ) (ps : List Piece) (r : Result Node LibTextErr) → All (LiesIn (length bytes)) ps → InOrder 0 ps
-    → MatchResult r (λ g. reading (map (token_of bytes) ps) ≡ Ok g) (λ e. Fails e (reading (map (token_of bytes) ps)))
+small_by : (bytes : List ℕ) (g : Node) → IsLiberty bytes g → HasPieces Lib bytes → bytes_of g ≤ length bytes
+small_by bytes g v h =
+    let found : tokens bytes ≡ Ok (map (token_in token_of bytes) h.found) = ap (tokens_from token_of bytes) h.cut_is in
+    let same : v.0 ≡ map (token_in token_of bytes) h.found = cc (v.1, found) in
+    omega (arith, text_bytes v.0 g v.2, ap tokens_bytes same, pieces_bytes bytes h.found 0 h.inside h.ordered (omega arith))
+
+-- what is read has no more bytes than its text
+pub read_small : (bytes : List ℕ) (r : Result Node (Refusal Rule)) → IfOk r (λ g. IsLiberty bytes g) → IfOk r (λ _. HasPieces Lib bytes)
     → IfOk r (λ g. bytes_of g ≤ length bytes)
-read_small bytes ps (Ok g) all order h =
-    let text = text_bytes (map (token_of bytes) ps) g (reading_text (map (token_of bytes) ps) g h) in
-    omega (arith, pieces_bytes bytes ps 0 all order (omega arith))
-read_small bytes ps (Err e) all order h = tt
+read_small bytes (Ok g) v h = small_by bytes g v h
+read_small bytes (Err e) v h = tt
 
 -- and so where the text has at most so many
-pub smaller : (m n : ℕ) (r : Result Node LibTextErr) → m ≤ n → IfOk r (λ g. bytes_of g ≤ m) → IfOk r (λ g. bytes_of g ≤ n)
+pub smaller : (m n : ℕ) (r : Result Node (Refusal Rule)) → m ≤ n → IfOk r (λ g. bytes_of g ≤ m) → IfOk r (λ g. bytes_of g ≤ n)
 smaller m n (Ok g) le h = omega (arith, h)
 smaller m n (Err e) le h = tt

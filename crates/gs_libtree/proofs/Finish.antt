@@ -3,9 +3,10 @@
 use Rattle.std.proofs.Common.{◌≡◌, ℕ, Bool, true, List, [], ◌∷◌, ◌++◌, length, refl, subst, ◌∙◌, Result, Ok}
 use Rattle.gs_grammar.specs.Machine.{run}
 use Rattle.gs_grammar.proofs.Runs.{run-ok, run-nil, run-append, begins}
+use Rattle.gs_drive.specs.declared.machine.Fault.{Fault}
 use Rattle.gs_libtree.specs.Machine.{Room, State, at, start, step, step_at, entered, with_item}
 use Rattle.gs_libtree.specs.Token.{Token, word, quoted, opens, closes, enters, leaves, comma, semicolon, colon}
-use Rattle.gs_libtree.specs.declared.error.StepErr.{StepErr}
+use Rattle.gs_libtree.specs.declared.error.Rule.{Rule}
 use Rattle.gs_libtree.specs.declared.reader.Place.{Place}
 use Rattle.gs_libtree.specs.declared.reader.Place.TheVariants.{Start, Named, FirstArg, Arg, NextArg, Closed, Body, FirstValue, Values, Done}
 use Rattle.gs_libtree.specs.declared.tree.Node.{Node}
@@ -25,7 +26,7 @@ Kept _ _ = Unit {0}
 abbrev pub KeptAt : State → Type 0
 KeptAt s = Kept s.place s.groups
 
-arrives : (x m : State) → ◌≡◌ {A = Result State StepErr} (Ok x) (Ok m) → KeptAt x → KeptAt m
+arrives : (x m : State) → ◌≡◌ {A = Result State (Fault Rule)} (Ok x) (Ok m) → KeptAt x → KeptAt m
 arrives x m h k = let same : x ≡ m = cc in subst KeptAt same k
 
 keeps : (room : Room) (p : Place) (t : Token) (n : List ℕ) (vs : List (List ℕ)) (gs : List Node) (m : State) → step_at room p n vs gs t ≡ Ok m → Kept p gs → KeptAt m

@@ -1,7 +1,6 @@
 pub mod Bytes
 pub mod Complete
 pub mod Deep
-pub mod Exact
 pub mod Finish
 pub mod Groups
 pub mod Laws

@@ -3,12 +3,13 @@
 use Rattle.std.proofs.Common.{◌≡◌, ℕ, inl, inr, Bool, true, false, List, [], ◌∷◌, ◌++◌, length, map, refl, sym, ap, subst, ◌∙◌, Result, Ok, append_assoc, append-nil, add-one}
 use Rattle.gs_grammar.specs.Machine.{run}
 use Rattle.gs_grammar.proofs.Runs.{begins, run-nil}
+use Rattle.gs_drive.specs.declared.machine.Fault.{Fault}
 use Rattle.gs_libtree.specs.Depth.{Fits}
 use Rattle.gs_libtree.specs.Machine.{Room, State, at, start, step, step_at, entered, with_item}
 use Rattle.gs_libtree.specs.Text.{value_text, next_text, args_texts, items_of}
 use Rattle.gs_libtree.specs.Token.{Token, word, quoted, opens, closes, enters, leaves, comma, semicolon, colon}
 use Rattle.gs_libtree.specs.Tree.{Value, bare, in_quotes, beside, after_comma, Args, no_args, some_args, Content, nothing, stray, simple, complex, subgroup, value_token, args_tokens, content_tokens}
-use Rattle.gs_libtree.specs.declared.error.StepErr.{StepErr}
+use Rattle.gs_libtree.specs.declared.error.Rule.{Rule}
 use Rattle.gs_libtree.specs.declared.reader.Place.{Place}
 use Rattle.gs_libtree.specs.declared.reader.Place.TheVariants.{Start, Named, FirstArg, Arg, NextArg, Closed, Body, FirstValue, Values, Done}
 use Rattle.gs_libtree.specs.declared.tree.Node.{Node}
@@ -27,7 +28,7 @@ cons : (t u : Token) (ts us : List Token) → t ≡ u → ts ≡ us → t ∷ ts
 cons t u ts us e h = cc
 
 pub entered_ok : (b : Bool) (n : List ℕ) (vs : List (List ℕ)) (gs : List Node) (m : State) → entered b n vs gs ≡ Ok m
-    → (b ≡ true) × (◌≡◌ {A = Result State StepErr} (Ok (at Body [] [] (fresh n vs ∷ gs))) (Ok m))
+    → (b ≡ true) × (◌≡◌ {A = Result State (Fault Rule)} (Ok (at Body [] [] (fresh n vs ∷ gs))) (Ok m))
 entered_ok true n vs gs m h = (refl, h)
 entered_ok false n vs gs m h = cc
 
@@ -127,7 +128,7 @@ module _ (room : Room) where
   root_before n ts r (inl q) = elim q.left.left [ inl e ↦ absurd e.left | inr e ↦ root_entered n ts r q e ]
 
   -- the state after an arrow is the one that the arrow gives
-  back : (x m : State) (ts : List Token) (r : Node) → ◌≡◌ {A = Result State StepErr} (Ok x) (Ok m) → LeftAt room m ts r → LeftAt room x ts r
+  back : (x m : State) (ts : List Token) (r : Node) → ◌≡◌ {A = Result State (Fault Rule)} (Ok x) (Ok m) → LeftAt room m ts r → LeftAt room x ts r
   back x m ts r h l = let same : m ≡ x = cc in subst (λ s. LeftAt room s ts r) same l
 
   -- one more value

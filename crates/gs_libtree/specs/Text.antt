@@ -39,12 +39,16 @@ depth (simple n v vs c) = depth c
 depth (complex n a c) = depth c
 depth (subgroup n a i c) = max (depth i + 1) (depth c)
 
--- the tokens are the spelling of a tree that stands for the group, and no group is more than 64 deep
+-- how many groups may stand in one another, the root among them
+abbrev pub max_depth : ℕ
+max_depth = 64
+
+-- the tokens are the spelling of a tree that stands for the group, and no group is too deep
 pub record LibText (ts : List Token) (g : Node) : Type 0 where
   pub tree : Tree
   pub spells : ts ≡ spelling tree
   pub stands : g ≡ group_of tree
-  pub shallow : depth tree.content + 1 ≤ 64
+  pub shallow : depth tree.content + 1 ≤ max_depth
 
 abbrev pub IsText : List Token → Type 0
 IsText ts = (g : Node) × LibText ts g

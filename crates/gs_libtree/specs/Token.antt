@@ -1,12 +1,10 @@
 -- Tokens of Liberty: what a piece of the text is, and the bytes that it stands for.
 
-use Rattle.std.specs.Prelude.{ℕ, List, map, codes, Result, Ok, Err, if◌then◌else◌}
+use Rattle.std.specs.Prelude.{ℕ, List, codes, Result, if◌then◌else◌}
 use Rattle.std.specs.Str.{bytes_eq}
-use Rattle.gs_text.specs.Cut.{pieces}
-use Rattle.gs_text.specs.Pieces.{text_of}
+use Rattle.gs_drive.specs.Tokens.{tokens as tokens_in}
 use Rattle.gs_text.specs.declared.kinds.Kind.{Kind}
 use Rattle.gs_text.specs.declared.kinds.Kind.TheVariants.{Word, Escaped, Text, Mark}
-use Rattle.gs_text.specs.declared.kinds.Piece.{Piece}
 use Rattle.gs_text.specs.declared.kinds.Style.TheVariants.{Lib}
 use Rattle.gs_text.specs.declared.kinds.TextErr.{TextErr}
 use Rattle.gs_libtree.specs.declared.token.Class.{Class}
@@ -55,14 +53,10 @@ token Class.Semicolon text = semicolon
 token Class.Colon text = colon
 token Class.Other text = other
 
-abbrev pub token_of : List ℕ → Piece → Token
-token_of bytes p = token (class_of p.kind (text_of bytes p)) (text_of bytes p)
+-- the token of a piece of this kind and text
+abbrev pub token_of : Kind → List ℕ → (line : ℕ) → Token
+token_of kind text line = token (class_of kind text) text
 
--- the tokens of pieces, or why there are none
-abbrev pub tokens_from : List ℕ → Result (List Piece) TextErr → Result (List Token) TextErr
-tokens_from bytes (Ok ps) = Ok (map (token_of bytes) ps)
-tokens_from bytes (Err e) = Err e
-
--- the tokens of a text
+-- the tokens of a text, or why there are none
 abbrev pub tokens : List ℕ → Result (List Token) TextErr
-tokens bytes = tokens_from bytes (pieces Lib bytes)
+tokens bytes = tokens_in token_of Lib bytes

@@ -1,7 +1,13 @@
 //! Why a text is no Liberty text.
 #![tactic(auto)]
 
-use std::alloc::{AllocError, AllocFailed};
+ghost use Rattle.std.specs.Prelude.{◌≡◌};
+ghost use Rattle.gs_drive.specs.declared.machine.Fault.{Fault};
+ghost use Rattle.gs_drive.specs.declared.machine.StepErr.{StepErr};
+ghost use Rattle.gs_libtree.specs.Reading.{refusal_of};
+
+use gs_drive::{Fault, Refusal, StepErr};
+use gs_text::TextErr;
 
 /// Why a text is no Liberty text. A place `i` counts the pieces of the text from 0, and `at` its bytes from 0.
 #[derive(Debug, PartialEq, Eq, Drop)]
@@ -18,35 +24,32 @@ pub enum LibTextErr {
     Mem,
 }
 
-/// Why a reader can't go on from a token.
+/// A rule that a text of the form may break.
 #[derive(Debug, PartialEq, Eq, Drop)]
-pub enum StepErr {
-    /// No text of the form goes on with the token.
-    Bad,
-    /// The token opens a group too deep.
-    Deep,
-    /// Memory ran out.
-    Mem,
+pub enum Rule {
+    /// Groups are at most 64 deep.
+    TooDeep,
 }
 
-impl<T: Drop> From<AllocFailed<T>> for StepErr {
-    ghost use Rattle.std.specs.Prelude.{◌≡◌};
-    ghost use Rattle.gs_libtree.specs.declared.error.StepErr.{StepErr};
+/// Why a reader can't go on from a token.
+pub type Stop = StepErr<Rule>;
 
-    ghost from_gives = { λ _ error. error ≡ StepErr.Mem };
-
-    fn from(_error: AllocFailed<T>) -> StepErr {
-        StepErr::Mem
-    }
+/// A token with which no text of the form goes on.
+pub fn bad() -> Stop
+    ensures { result ≡ StepErr.Refused Fault.Bad }
+{
+    StepErr::Refused(Fault::Bad)
 }
 
-impl From<AllocError> for StepErr {
-    ghost use Rattle.std.specs.Prelude.{◌≡◌};
-    ghost use Rattle.gs_libtree.specs.declared.error.StepErr.{StepErr};
-
-    ghost from_gives = { λ _ error. error ≡ StepErr.Mem };
-
-    fn from(_error: AllocError) -> StepErr {
-        StepErr::Mem
+/// A Liberty text's refusal for the driver's. Where the text ends too early, its end is the bad piece.
+pub fn refusal_of(refusal: Refusal<Rule>) -> LibTextErr
+    ensures { result ≡ refusal_of refusal }
+{
+    match refusal {
+        Refusal::Text(TextErr::OpenString { at }) => LibTextErr::OpenString { at },
+        Refusal::Text(TextErr::OpenComment { at }) => LibTextErr::OpenComment { at },
+        Refusal::Broken { i, .. } => LibTextErr::TooDeep { i },
+        Refusal::Bad { i } | Refusal::Early { i } => LibTextErr::BadPiece { i },
+        Refusal::Text(TextErr::Mem) | Refusal::Mem => LibTextErr::Mem,
     }
 }

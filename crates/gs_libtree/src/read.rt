@@ -1,87 +1,28 @@
 //! Reading a Liberty text.
 #![tactic(auto)]
 
-ghost use Rattle.std.specs.Prelude.{◌≡◌, ◌≢◌, ◌⊎◌, ◌≤◌, ◌^◌, length, map, IfErr, IfOk, MatchResult, Ok};
-ghost use Rattle.std.specs.List.{All};
-ghost use Rattle.gs_text.specs.Cut.{ComesIn};
-ghost use Rattle.gs_text.specs.Pieces.{InOrder, LiesIn};
-ghost use Rattle.gs_text.specs.declared.kinds.Style.{Style};
+ghost use Rattle.std.specs.Prelude.{◌≡◌, ◌≤◌, ℕ, length, IfErr, IfOk};
+ghost use Rattle.gs_grammar.specs.Answers.{IsDecided, IsExact, IsOnly, IsRefused, renamed};
+ghost use Rattle.gs_text.specs.Bytes.{max_text};
 ghost use Rattle.gs_libtree.specs.Bytes.{bytes_of};
-ghost use Rattle.gs_libtree.specs.Machine.{Fails, outcome, reading, unread};
-ghost use Rattle.gs_libtree.specs.Reading.{refused};
+ghost use Rattle.gs_libtree.specs.Reading.{refusal_of};
 ghost use Rattle.gs_libtree.specs.Refusal.{HasCause, IsLiberty};
-ghost use Rattle.gs_libtree.specs.Token.{token_of};
 
-use crate::error::{LibTextErr, StepErr};
+use crate::error::{LibTextErr, Rule, refusal_of};
 use crate::reader::Reader;
-use crate::token::class_of;
 use crate::tree::{Group, Node};
-use gs_text::{Piece, Style, TextErr, pieces, text_of};
+use gs_drive::{Refusal, drive};
+use gs_text::Style;
 use std::alloc::Global;
 
-/// The refusal of piece `i`.
-fn refusal(i: u32, error: StepErr) -> LibTextErr
-    ensures { result ≡ refused i error }
-{
-    match error {
-        StepErr::Bad => LibTextErr::BadPiece { i },
-        StepErr::Deep => LibTextErr::TooDeep { i },
-        StepErr::Mem => LibTextErr::Mem,
-    }
-}
-
-/// The refusal of a text that has no pieces.
-fn unread(error: TextErr) -> LibTextErr
-    requires { ComesIn Style.Lib error }
-    ensures { result ≡ unread error }
-{
-    match error {
-        TextErr::OpenString { at } => LibTextErr::OpenString { at },
-        TextErr::OpenComment { at } => LibTextErr::OpenComment { at },
-        TextErr::Mem => LibTextErr::Mem,
-        TextErr::NotBuilt { .. } => unreachable!(),
-    }
-}
-
-/// Reads the pieces of a text.
-fn read_pieces(alloc: Global, bytes: &[u8], pieces: &[Piece]) -> Result<Node, LibTextErr>
-    requires few { length pieces.now ≤ 2 ^ 28 }
-    requires inside { All (LiesIn (length bytes.now)) pieces.now }
-    requires ordered { InOrder 0 pieces.now }
-    ensures small { IfOk result (λ g. bytes_of g ≤ length bytes.now) }
-    ensures answer { MatchResult result (λ g. reading (map (token_of bytes.now) pieces.now) ≡ Ok g) (λ e. Fails e (reading (map (token_of bytes.now) pieces.now))) }
-{
-    let mut reader = Reader::new(alloc);
-    for (i, piece) in pieces.iter().enumerate() {
-        let text = text_of(bytes, piece);
-        match reader.take(alloc, class_of(piece.kind, text), text) {
-            Ok(()) => {}
-            Err(error) => return Err(refusal(i as u32, error)),
-        }
-    }
-    reader.finish(pieces.len() as u32)
-}
-
-/// Reads a text: its pieces, and then these.
-fn read_text(alloc: Global, bytes: &[u8]) -> Result<Node, LibTextErr>
-    requires { length bytes.now ≤ 2 ^ 28 }
-    ensures small { IfOk result (λ g. bytes_of g ≤ length bytes.now) }
-    ensures answer { MatchResult result (λ g. outcome bytes.now ≡ Ok g) (λ e. Fails e (outcome bytes.now)) }
-{
-    match pieces(alloc, Style::Lib, bytes) {
-        Ok(found) => read_pieces(alloc, bytes, found.as_slice()),
-        Err(error) => Err(unread(error)),
-    }
-}
-
-/// What is read, as a whole text's group.
-fn whole(read: Result<Node, LibTextErr>) -> Result<Group, LibTextErr>
-    requires { IfOk read (λ g. bytes_of g ≤ 2 ^ 28) }
-    ensures { result ≡ read }
+/// What is read, as a whole text's group, with the refusals of a Liberty text.
+fn told(read: Result<Node, Refusal<Rule>>) -> Result<Group, LibTextErr>
+    requires { IfOk read (λ g. bytes_of g ≤ max_text) }
+    ensures { result ≡ renamed refusal_of read }
 {
     match read {
         Ok(root) => Ok(Group::of(root)),
-        Err(error) => Err(error),
+        Err(refusal) => Err(refusal_of(refusal)),
     }
 }
 
@@ -89,25 +30,27 @@ fn whole(read: Result<Node, LibTextErr>) -> Result<Group, LibTextErr>
 ///
 /// # Errors
 ///
-/// The first of `OpenString`, `OpenComment`, `TooDeep` and `BadPiece` in the text's order, where the first two, which
-/// speak of bytes, come before the others; `Mem` where memory ran out.
+/// `OpenString` or `OpenComment` first, also where memory ran out; else the first of `TooDeep` and `BadPiece` in the text's
+/// order; `Mem` where memory ran out.
 pub fn read_tree(alloc: Global, bytes: &[u8]) -> Result<Group, LibTextErr>
-    requires { length bytes.now ≤ 2 ^ 28 }
+    requires { length bytes.now ≤ max_text }
     // What is read is a Liberty text, and stands for this group.
     ensures ok { IfOk result (λ g. IsLiberty bytes.now g) }
     // A text is read as the one group that it stands for, unless memory runs out.
-    ensures only { (g : Node) → IsLiberty bytes.now g → MatchResult result (λ found. found ≡ g) (λ e. e ≡ LibTextErr.Mem) }
+    ensures only { IsOnly LibTextErr.Mem (IsLiberty bytes.now) result }
     // Each refusal comes only by its cause,
     ensures err { IfErr result (λ e. HasCause bytes.now e) }
     // and where a cause stands, its refusal comes, unless memory runs out.
-    ensures exact { (e : LibTextErr) → e ≢ LibTextErr.Mem → HasCause bytes.now e → MatchResult result (λ g. ⊥) (λ f. (f ≡ e) ⊎ (f ≡ LibTextErr.Mem)) }
+    ensures exact { IsExact LibTextErr.Mem (HasCause bytes.now) result }
+    // A string or a comment without an end is always told: it is never answered as want of memory.
+    ensures string { (at : ℕ) → HasCause bytes.now (LibTextErr.OpenString at) → IsRefused (LibTextErr.OpenString at) result }
+    ensures comment { (at : ℕ) → HasCause bytes.now (LibTextErr.OpenComment at) → IsRefused (LibTextErr.OpenComment at) result }
+    // Each text is a Liberty text, or has a cause other than want of memory.
+    ensures decided { IsDecided LibTextErr.Mem (IsLiberty bytes.now) (HasCause bytes.now) }
     // The names, args and values of what is read have together no more bytes than the text.
     ensures small { IfOk result (λ g. bytes_of g ≤ length bytes.now) }
-    // The answer is a function of the bytes, unless memory runs out.
-    ensures function { MatchResult result (λ g. outcome bytes.now ≡ Ok g) (λ e. Fails e (outcome bytes.now)) }
 {
-    let read = whole(read_text(alloc, bytes));
-    read
+    told(drive::<Reader>(alloc, Style::Lib, bytes))
 }
 
 #[cfg(test)]
@@ -148,7 +91,7 @@ mod tests {
 
     /// Whether the text is refused so.
     fn is_refused(alloc: Global, text: &[u8], wanted: LibTextErr) -> bool
-        requires { length text.now ≤ 2 ^ 28 }
+        requires { length text.now ≤ max_text }
     {
         match read_tree(alloc, text) {
             Ok(_) => false,

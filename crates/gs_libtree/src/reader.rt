@@ -1,20 +1,22 @@
 //! The reader: a place in the form, and the groups that are open.
 #![tactic(auto)]
 
-ghost use Rattle.std.specs.Prelude.{◌≡◌, ◌++◌, ◌∷◌, [], reverse, IfErr, IfOk, MatchResult, Ok};
-ghost use Rattle.gs_libtree.specs.Machine.{Fails, at, at_end, in_group, limit, start, step, with_item};
-ghost use Rattle.gs_libtree.specs.Reading.{StepFails, state_of};
+ghost use Rattle.std.specs.Prelude.{◌≡◌, ◌++◌, ◌∷◌, [], reverse, IfErr, IfOk, Ok};
+ghost use Rattle.gs_drive.specs.Machine.{StepFails};
+ghost use Rattle.gs_libtree.specs.Machine.{at, end_of, in_group, limit, start, step, with_item};
+ghost use Rattle.gs_libtree.specs.Reading.{state_of};
 ghost use Rattle.gs_libtree.specs.Token.{closes, colon, comma, enters, leaves, opens, quoted, semicolon, token, word};
 
-use crate::error::{LibTextErr, StepErr};
+use crate::error::{Rule, Stop, bad};
 use crate::token::Class;
 use crate::tree::{Item, Node};
+use gs_drive::{Fault, StepErr};
 use gs_text::{Name, Names};
 use sqlite_items::Items;
 use std::alloc::Global;
 use std::mem;
 
-/// How many groups may be open.
+/// How many groups may be open; contracts call it `max_depth`.
 const DEPTH: usize = 64;
 
 /// A place in the form, named after what was read last.
@@ -55,9 +57,9 @@ pub struct Reader {
 }
 
 /// Puts an item to the innermost group.
-fn put_item(groups: &mut Vec<Node>, item: Item) -> Result<(), StepErr>
+fn put_item(groups: &mut Vec<Node>, item: Item) -> Result<(), Stop>
     ensures ok { IfOk result (λ _. reverse groups.new.items ≡ with_item (reverse groups.old.items) item) }
-    ensures err { IfErr result (λ e. e ≡ StepErr.Mem) }
+    ensures err { IfErr result (λ e. e ≡ StepErr.Full) }
 {
     let count = groups.len();
     if count > 0 {
@@ -98,9 +100,9 @@ impl Reader {
     }
 
     /// Takes a word or a string between parentheses.
-    fn take_arg(&mut self, alloc: Global, text: &[u8]) -> Result<(), StepErr>
+    fn take_arg(&mut self, alloc: Global, text: &[u8]) -> Result<(), Stop>
         ensures ok { IfOk result (λ _. state_of self.new ≡ record (state_of self.old) { place = Place.Arg; values = self.old.values.items ++ text.now ∷ [] }) }
-        ensures err { IfErr result (λ e. e ≡ StepErr.Mem) }
+        ensures err { IfErr result (λ e. e ≡ StepErr.Full) }
     {
         let value = Name::copy_of(alloc, text)?;
         self.values.push(value)?;
@@ -109,9 +111,9 @@ impl Reader {
     }
 
     /// Takes the value of an attribute.
-    fn take_first(&mut self, alloc: Global, text: &[u8]) -> Result<(), StepErr>
+    fn take_first(&mut self, alloc: Global, text: &[u8]) -> Result<(), Stop>
         ensures ok { IfOk result (λ _. state_of self.new ≡ at Place.Values [] self.old.values.items (with_item (reverse self.old.groups.items) (Item.Simple self.old.name text.now))) }
-        ensures err { IfErr result (λ e. e ≡ StepErr.Mem) }
+        ensures err { IfErr result (λ e. e ≡ StepErr.Full) }
     {
         let value = Name::copy_of(alloc, text)?;
         let name = self.take_name(alloc);
@@ -121,7 +123,7 @@ impl Reader {
     }
 
     /// Takes a word or a string where a value may stand.
-    fn take_value(&mut self, alloc: Global, text: &[u8]) -> Result<(), StepErr>
+    fn take_value(&mut self, alloc: Global, text: &[u8]) -> Result<(), Stop>
         ensures ok { IfOk result (λ _. step limit (state_of self.old) (quoted text.now) ≡ Ok (state_of self.new)) }
         ensures err { IfErr result (λ e. StepFails e (step limit (state_of self.old) (quoted text.now))) }
     {
@@ -135,14 +137,12 @@ impl Reader {
                 Ok(())
             }
             Place::Values => Ok(()),
-            Place::Start | Place::Named | Place::Closed | Place::Body | Place::Done => Err(
-                StepErr::Bad,
-            ),
+            Place::Start | Place::Named | Place::Closed | Place::Body | Place::Done => Err(bad()),
         }
     }
 
     /// Takes a word.
-    fn take_word(&mut self, alloc: Global, text: &[u8]) -> Result<(), StepErr>
+    fn take_word(&mut self, alloc: Global, text: &[u8]) -> Result<(), Stop>
         ensures ok { IfOk result (λ _. step limit (state_of self.old) (word text.now) ≡ Ok (state_of self.new)) }
         ensures err { IfErr result (λ e. StepFails e (step limit (state_of self.old) (word text.now))) }
     {
@@ -164,7 +164,7 @@ impl Reader {
     }
 
     /// Takes an opening parenthesis.
-    fn take_opening(&mut self, alloc: Global) -> Result<(), StepErr>
+    fn take_opening(&mut self, alloc: Global) -> Result<(), Stop>
         ensures ok { IfOk result (λ _. step limit (state_of self.old) opens ≡ Ok (state_of self.new)) }
         ensures err { IfErr result (λ e. StepFails e (step limit (state_of self.old) opens)) }
     {
@@ -173,11 +173,11 @@ impl Reader {
             self.place = Place::FirstArg;
             return Ok(());
         }
-        Err(StepErr::Bad)
+        Err(bad())
     }
 
     /// Takes a closing parenthesis.
-    fn take_closing(&mut self) -> Result<(), StepErr>
+    fn take_closing(&mut self) -> Result<(), Stop>
         ensures ok { IfOk result (λ _. step limit (state_of self.old) closes ≡ Ok (state_of self.new)) }
         ensures err { IfErr result (λ e. StepFails e (step limit (state_of self.old) closes)) }
     {
@@ -185,19 +185,19 @@ impl Reader {
             self.place = Place::Closed;
             return Ok(());
         }
-        Err(StepErr::Bad)
+        Err(bad())
     }
 
     /// Takes an opening brace.
-    fn enter(&mut self, alloc: Global) -> Result<(), StepErr>
+    fn enter(&mut self, alloc: Global) -> Result<(), Stop>
         ensures ok { IfOk result (λ _. step limit (state_of self.old) enters ≡ Ok (state_of self.new)) }
         ensures err { IfErr result (λ e. StepFails e (step limit (state_of self.old) enters)) }
     {
         if self.place != Place::Closed {
-            return Err(StepErr::Bad);
+            return Err(bad());
         }
         if self.groups.len() >= DEPTH {
-            return Err(StepErr::Deep);
+            return Err(StepErr::Refused(Fault::Broken(Rule::TooDeep)));
         }
         let name = self.take_name(alloc);
         let args = self.take_values(alloc);
@@ -208,19 +208,19 @@ impl Reader {
     }
 
     /// Takes a closing brace.
-    fn leave(&mut self) -> Result<(), StepErr>
+    fn leave(&mut self) -> Result<(), Stop>
         ensures ok { IfOk result (λ _. step limit (state_of self.old) leaves ≡ Ok (state_of self.new)) }
         ensures err { IfErr result (λ e. StepFails e (step limit (state_of self.old) leaves)) }
     {
         if self.place != Place::Body {
-            return Err(StepErr::Bad);
+            return Err(bad());
         }
         if self.groups.len() == 1 {
             self.place = Place::Done;
             return Ok(());
         }
         match self.groups.pop() {
-            None => Err(StepErr::Bad),
+            None => Err(bad()),
             Some(group) => {
                 put_item(&mut self.groups, Item::Sub(group))?;
                 Ok(())
@@ -229,7 +229,7 @@ impl Reader {
     }
 
     /// Takes a comma.
-    fn take_comma(&mut self) -> Result<(), StepErr>
+    fn take_comma(&mut self) -> Result<(), Stop>
         ensures ok { IfOk result (λ _. step limit (state_of self.old) comma ≡ Ok (state_of self.new)) }
         ensures err { IfErr result (λ e. StepFails e (step limit (state_of self.old) comma)) }
     {
@@ -237,16 +237,16 @@ impl Reader {
             self.place = Place::NextArg;
             return Ok(());
         }
-        Err(StepErr::Bad)
+        Err(bad())
     }
 
     /// Takes the semicolon that ends a complex attribute.
-    fn end_complex(&mut self, alloc: Global) -> Result<(), StepErr>
+    fn end_complex(&mut self, alloc: Global) -> Result<(), Stop>
         ensures ok { IfOk result (λ _. in_group (reverse self.old.groups.items) (at Place.Body [] [] (with_item (reverse self.old.groups.items) (Item.Complex self.old.name self.old.values.items))) ≡ Ok (state_of self.new)) }
         ensures err { IfErr result (λ e. StepFails e (in_group (reverse self.old.groups.items) (at Place.Body [] [] (with_item (reverse self.old.groups.items) (Item.Complex self.old.name self.old.values.items))))) }
     {
         if self.groups.is_empty() {
-            return Err(StepErr::Bad);
+            return Err(bad());
         }
         let name = self.take_name(alloc);
         let values = self.take_values(alloc);
@@ -256,7 +256,7 @@ impl Reader {
     }
 
     /// Takes a semicolon.
-    fn take_semicolon(&mut self, alloc: Global) -> Result<(), StepErr>
+    fn take_semicolon(&mut self, alloc: Global) -> Result<(), Stop>
         ensures ok { IfOk result (λ _. step limit (state_of self.old) semicolon ≡ Ok (state_of self.new)) }
         ensures err { IfErr result (λ e. StepFails e (step limit (state_of self.old) semicolon)) }
     {
@@ -273,27 +273,27 @@ impl Reader {
             | Place::Arg
             | Place::NextArg
             | Place::FirstValue
-            | Place::Done => Err(StepErr::Bad),
+            | Place::Done => Err(bad()),
         }
     }
 
     /// Takes a colon.
-    fn take_colon(&mut self) -> Result<(), StepErr>
+    fn take_colon(&mut self) -> Result<(), Stop>
         ensures ok { IfOk result (λ _. step limit (state_of self.old) colon ≡ Ok (state_of self.new)) }
         ensures err { IfErr result (λ e. StepFails e (step limit (state_of self.old) colon)) }
     {
         if self.place != Place::Named {
-            return Err(StepErr::Bad);
+            return Err(bad());
         }
         if self.groups.is_empty() {
-            return Err(StepErr::Bad);
+            return Err(bad());
         }
         self.place = Place::FirstValue;
         Ok(())
     }
 
     /// Takes a token.
-    pub fn take(&mut self, alloc: Global, class: Class, text: &[u8]) -> Result<(), StepErr>
+    pub fn enter_token(&mut self, alloc: Global, class: Class, text: &[u8]) -> Result<(), Stop>
         ensures ok { IfOk result (λ _. step limit (state_of self.old) (token class text.now) ≡ Ok (state_of self.new)) }
         ensures err { IfErr result (λ e. StepFails e (step limit (state_of self.old) (token class text.now))) }
     {
@@ -307,13 +307,13 @@ impl Reader {
             Class::Comma => self.take_comma(),
             Class::Semicolon => self.take_semicolon(alloc),
             Class::Colon => self.take_colon(),
-            Class::Other => Err(StepErr::Bad),
+            Class::Other => Err(bad()),
         }
     }
 
-    /// The group, where the tokens ended with it; `count` is their number.
-    pub fn finish(self, count: u32) -> Result<Node, LibTextErr>
-        ensures { MatchResult result (λ g. at_end self.place (reverse self.groups.items) count ≡ Ok g) (λ e. Fails e (at_end self.place (reverse self.groups.items) count)) }
+    /// The group, where the tokens so far are a whole text.
+    pub fn into_group(self) -> Option<Node>
+        ensures { result ≡ end_of (state_of self) }
     {
         let Reader {
             place,
@@ -321,11 +321,8 @@ impl Reader {
             ..
         } = self;
         if place != Place::Done {
-            return Err(LibTextErr::BadPiece { i: count });
+            return None;
         }
-        match groups.pop() {
-            Some(group) => Ok(group),
-            None => Err(LibTextErr::BadPiece { i: count }),
-        }
+        groups.pop()
     }
 }

@@ -1,7 +1,8 @@
 //! Liberty groups and their items.
 #![tactic(auto)]
 
-ghost use Rattle.std.specs.Prelude.{◌≡◌, ◌≤◌, ◌^◌};
+ghost use Rattle.std.specs.Prelude.{◌≡◌, ◌≤◌};
+ghost use Rattle.gs_text.specs.Bytes.{max_text};
 ghost use Rattle.gs_libtree.specs.Bytes.{bytes_of};
 
 use gs_text::{Name, Names};
@@ -17,7 +18,8 @@ pub struct Group {
 }
 
 impl Model for Group {
-    ghost use Rattle.std.specs.Prelude.{◌≤◌, ◌^◌};
+    ghost use Rattle.std.specs.Prelude.{◌≤◌};
+    ghost use Rattle.gs_text.specs.Bytes.{max_text};
     ghost use Rattle.gs_libtree.specs.Bytes.{bytes_of};
     ghost use Rattle.gs_libtree.specs.declared.tree.Node.{Node};
 
@@ -25,7 +27,7 @@ impl Model for Group {
 
     ghost view = { λ g. g.root };
 
-    ghost invariant = { λ g. bytes_of g.root ≤ 2 ^ 28 };
+    ghost invariant = { λ g. bytes_of g.root ≤ max_text };
 
     ghost use Rattle.gs_libtree.specs.contracts.tree.Item as item;
     ghost use Rattle.std.specs.Coded.{codes};
@@ -36,7 +38,7 @@ impl Model for Group {
 impl Group {
     /// The group of a root. It takes no memory.
     pub(crate) fn of(root: Node) -> Group
-        requires { bytes_of root ≤ 2 ^ 28 }
+        requires { bytes_of root ≤ max_text }
         ensures { result ≡ root }
     {
         Group { root }
@@ -46,7 +48,7 @@ impl Group {
     pub fn root(&self) -> &Node
         ensures value { result.now ≡ self.now }
         // Its names, args and values have at most 2^28 bytes together.
-        ensures kept { bytes_of result.now ≤ 2 ^ 28 }
+        ensures kept { bytes_of result.now ≤ max_text }
     {
         &self.root
     }

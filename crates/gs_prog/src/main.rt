@@ -33,6 +33,6 @@ fn main(rt: HostRuntime) -> ExitCode {
         return ExitCode::from(exit_of(&Status::OutOfMemory));
     };
     let mut shelf = HostShelf::new(&rt);
-    let status = run(alloc, &words, &mut shelf);
+    let status = run(&rt, alloc, &words, &mut shelf);
     ExitCode::from(exit_of(&status))
 }

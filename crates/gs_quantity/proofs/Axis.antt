@@ -1,5 +1,5 @@
 -- Where a query falls on an axis.
-use Rattle.std.proofs.Common.{ℕ, zero, suc, ◌+◌, ◌-◌, ◌<◌, ◌≤◌, ◌≡◌, ◌∙◌, refl, sym, inl, inr, Bool, true, false, List, length, ℤ, pos, ◌≤ℤ◌, ◌<ℤ◌, int_lt, arith}
+use Rattle.std.proofs.Common.{ℕ, zero, suc, ◌+◌, ◌<◌, ◌≤◌, ◌≡◌, sym, inl, inr, true, false, List, length, ℤ, ◌≤ℤ◌, ◌<ℤ◌, int_lt, arith}
 use Rattle.std.proofs.lemmas.Int.{ints}
 use Rattle.std.proofs.lemmas.Bool.{cases_eq}
 use Rattle.gs_quantity.specs.Lookup.{at, greatest_to, IsAxis}

@@ -1,5 +1,5 @@
 -- The first place at which a test holds.
-use Rattle.std.proofs.Common.{ℕ, zero, suc, ◌+◌, ◌-◌, ◌<◌, ◌≤◌, ◌≡◌, ◌∙◌, ap, sym, refl, Bool, inl, inr, true, false, if◌then◌else◌, Option, Some, None, is_some, arith}
+use Rattle.std.proofs.Common.{ℕ, zero, suc, ◌+◌, ◌-◌, ◌<◌, ◌≤◌, ◌≡◌, ap, refl, Bool, inl, inr, true, false, if◌then◌else◌, Option, Some, None, is_some, arith}
 use Rattle.std.proofs.lemmas.Bool.{cases_eq, true≢false}
 use Rattle.gs_quantity.specs.TableFault.{first_place}
 

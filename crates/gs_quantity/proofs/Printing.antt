@@ -13,6 +13,7 @@ use Rattle.std.specs.List.{prefix_len}
 use Rattle.std.specs.Char.{is_ascii_digit}
 use Rattle.std.specs.Str.{all_ascii_digits}
 use Rattle.std.specs.Str.Parse.{digits_value, starts_with_minus, without_leading_sign}
+use Rattle.gs_quantity.specs.declared.limits.TheConstants.{NUMBER_LIMIT}
 use Rattle.gs_quantity.specs.Decimal.{digits_at, after_digits, unsigned_of, reading, read_of, scaled, in_range, signed_of}
 use Rattle.gs_quantity.specs.Print.{six_digits, magnitude_text, micro_text}
 use Rattle.gs_quantity.proofs.Digits.{all_at_front, value_append, value_below, value_split, digits_drop, digit_at, digit_is}
@@ -78,7 +79,7 @@ plain xs h =
     let plus : nat_eq (get_or xs 0 0) 43 ≡ false = ne_eqb (get_or xs 0 0) 43 (λ e. omega (arith, e)) in
     (minus, rw (minus, plus) refl)
 
-begins_with_digit : (n : ℕ) → n < 1099511627776 → 48 ≤ get_or (magnitude_text n) 0 0
+begins_with_digit : (n : ℕ) → n < NUMBER_LIMIT → 48 ≤ get_or (magnitude_text n) 0 0
 begins_with_digit n h =
     let w : ℕ = n / 1000000 in
     let small : n / 1000000 < 2 ^ 64 = omega arith in
@@ -86,10 +87,10 @@ begins_with_digit n h =
     let d = digit_is (get_or (decimal (n / 1000000)) 0 0) (digit_at (decimal (n / 1000000)) 0 (digits_are (n / 1000000) small) some) in
     rw (get_or_append_left (decimal (n / 1000000)) (46 ∷ six_digits (n % 1000000)) 0 0 some) d.1
 
-in_range_of : (n : ℕ) → n < 1099511627776 → in_range n ≡ Some n
-in_range_of n h = rw (lt-ltb n 1099511627776 h) refl
+in_range_of : (n : ℕ) → n < NUMBER_LIMIT → in_range n ≡ Some n
+in_range_of n h = rw (lt-ltb n NUMBER_LIMIT h) refl
 
-magnitude_is : (n : ℕ) → n < 1099511627776 → scaled (decimal (n / 1000000) ++ six_digits (n % 1000000)) 6 6 ≡ n
+magnitude_is : (n : ℕ) → n < NUMBER_LIMIT → scaled (decimal (n / 1000000) ++ six_digits (n % 1000000)) 6 6 ≡ n
 magnitude_is n h =
     let small : n / 1000000 < 2 ^ 64 = omega arith in
     let six = six_of (n % 1000000) (mod_below n 1000000 (omega arith)) in
@@ -97,7 +98,7 @@ magnitude_is n h =
     let f = rw (six.1, six.2, value_is (n / 1000000) small) at e in
     sym (scaled_up (decimal (n / 1000000) ++ six_digits (n % 1000000)) 6 6 (omega arith)) ∙ omega (arith, f, div-add-mod' n 1000000)
 
-text_value : (b : Bool) (n : ℕ) → n < 1099511627776 → reading (unsigned_of b (magnitude_text n)) 0 ≡ Ok (signed_of b n)
+text_value : (b : Bool) (n : ℕ) → n < NUMBER_LIMIT → reading (unsigned_of b (magnitude_text n)) 0 ≡ Ok (signed_of b n)
 text_value b n h =
     let small : n / 1000000 < 2 ^ 64 = omega arith in
     let six = six_of (n % 1000000) (mod_below n 1000000 (omega arith)) in
@@ -109,7 +110,7 @@ text_value b n h =
       in_range_of n h,
     ) refl
 
-pub reads_back : (z : ℤ) → nat_abs z < 1099511627776 → read_of (micro_text z) 0 ≡ Ok z
+pub reads_back : (z : ℤ) → nat_abs z < NUMBER_LIMIT → read_of (micro_text z) 0 ≡ Ok z
 reads_back (pos n) h =
     let p = plain (magnitude_text n) (begins_with_digit n h) in
     rw (p.1, p.0) (text_value false n h)

@@ -2,6 +2,7 @@
 use Rattle.std.proofs.Common.{ℕ, zero, suc, ◌+◌, ◌-◌, ◌*◌, ◌/◌, ◌%◌, ◌^◌, ◌<◌, ◌≤◌, ◌≡◌, ◌∙◌, ap, arith}
 use Rattle.std.proofs.lemmas.Nat.{div-add-mod', mod_below, le-div, div_below, div-mul-add, mul-le}
 use Rattle.std.proofs.Math.Nat.{pow-suc, pow-le-pow_right}
+use Rattle.gs_quantity.specs.declared.limits.TheConstants.{NUMBER_LIMIT}
 use Rattle.gs_quantity.specs.Nearest.{nearest, IsNearest}
 
 within_from : (w b n : ℕ) → w * (2 * b) ≤ n + b → (2 * w - 1) * b ≤ n
@@ -70,7 +71,7 @@ nearest_none v q h =
     let small : (2 * v + q) / (2 * q) < 1 = div_below (2 * v + q) (2 * q) 1 (omega arith) (omega arith) in omega (arith, small)
 
 -- a number above 0 with 13 zeros or more behind it
-pub zeros_far : (n k : ℕ) → 0 < n → 12 < k → 1099511627776 ≤ n * 10 ^ k
+pub zeros_far : (n k : ℕ) → 0 < n → 12 < k → NUMBER_LIMIT ≤ n * 10 ^ k
 zeros_far n k h more =
     let ten : 0 < 10 = omega arith in
     let p : 10 ^ 13 ≤ 10 ^ k = pow-le-pow_right ten (let low : 13 ≤ k = omega arith in low) in

@@ -7,6 +7,7 @@ use Rattle.std.proofs.Math.Nat.{pow-suc, one-le-pow, pow-le-pow_right}
 use Rattle.std.specs.Char.{digit_value}
 use Rattle.std.specs.Str.{all_ascii_digits}
 use Rattle.std.specs.Str.Parse.{digits_value}
+use Rattle.gs_quantity.specs.declared.limits.TheConstants.{NUMBER_LIMIT}
 use Rattle.gs_quantity.specs.Nearest.{nearest}
 use Rattle.gs_quantity.specs.Decimal.{Decimal, digits_of, raised, lowered, scaled, IsScaled, magnitude_of, IsMagnitude, IsFar, signed_of, rounded_by, IsBounded}
 use Rattle.gs_quantity.proofs.Digits.{value_split, value_below, digits_drop, digit_at, digit_is}
@@ -52,7 +53,7 @@ rounded_up : (n d : ℕ) → n ≤ rounded_by n d
 rounded_up n d = elim (cases_lt d 5) [ inl low ↦ rw (lt-ltb d 5 low) (omega arith) | inr high ↦ rw (le-ltb d 5 high) (omega arith) ]
 
 pub shortened_far : (xs : List ℕ) (k : ℕ) → all_ascii_digits xs ≡ true → 0 < k → k ≤ length xs
-    → 1099511627776 ≤ digits_value 10 (take (length xs - k) xs) → 1099511627776 ≤ nearest (digits_value 10 xs) (10 ^ k)
+    → NUMBER_LIMIT ≤ digits_value 10 (take (length xs - k) xs) → NUMBER_LIMIT ≤ nearest (digits_value 10 xs) (10 ^ k)
 shortened_far xs k ds some within far =
     omega (arith, shortened xs k ds some within, rounded_up (digits_value 10 (take (length xs - k) xs)) (digit_value (get_or xs (length xs - k) 0)))
 
@@ -121,5 +122,5 @@ abs_signed false n = refl
 pub is_magnitude : (d : Decimal) (tens n : ℕ) → n ≡ magnitude_of d tens → IsMagnitude d tens n
 is_magnitude d tens n e = subst (λ m. IsMagnitude d tens m) (sym e) (scaled_is (digits_of d) (raised d tens) (lowered d))
 
-pub far_from : (d : Decimal) (tens : ℕ) → 1099511627776 ≤ magnitude_of d tens → IsFar (Some d) tens
+pub far_from : (d : Decimal) (tens : ℕ) → NUMBER_LIMIT ≤ magnitude_of d tens → IsFar (Some d) tens
 far_from d tens h = λ w k. omega (arith, h, scaled_one (digits_of d) (raised d tens) (lowered d) (magnitude_of d tens) w (scaled_is (digits_of d) (raised d tens) (lowered d)) k)

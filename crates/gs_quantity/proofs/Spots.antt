@@ -1,7 +1,8 @@
 -- The numbers of a spot are small.
-use Rattle.std.proofs.Common.{ℕ, ◌+◌, ◌<◌, ◌≤◌, ◌≡◌, ℤ, pos, negsuc, ◌-ℤ◌, ◌≤ℤ◌, ◌<ℤ◌, nat_abs, subst, sym, arith}
+use Rattle.std.proofs.Common.{ℕ, ◌+◌, ◌<◌, ◌≤◌, ◌≡◌, ℤ, pos, ◌-ℤ◌, ◌<ℤ◌, nat_abs, subst, sym, arith}
 use Rattle.std.proofs.lemmas.Int.{ints}
-use Rattle.std.proofs.Common.{Bool, true, false, if◌then◌else◌, refl, ap, ◌∙◌, ◌*◌, ◌+ℤ◌, List, length, ◌*ℤ◌}
+use Rattle.std.proofs.Common.{Bool, true, false, if◌then◌else◌, refl, ap, ◌∙◌, ◌+ℤ◌, List, length, ◌*ℤ◌}
+use Rattle.gs_quantity.specs.declared.limits.TheConstants.{TABLE_LIMIT, RANGE_LIMIT}
 use Rattle.gs_quantity.specs.Lookup.{at, corner_of, segment_of, is_single, low_of, high_of, after_of, before_of, span_of, nearest_of, numerator_of, denominator_of, rounded_of, IsNearestUp}
 use Rattle.gs_quantity.specs.Spots.{spot_between, spot_at, spot_of, value_at, IsSpot}
 use Rattle.gs_quantity.proofs.Quotient.{nearest_is, positive_product}
@@ -10,15 +11,15 @@ use Rattle.gs_quantity.specs.declared.lookup.axis.Spot.{Spot}
 abs_sub : (a b : ℤ) (m n : ℕ) → nat_abs a ≤ m → nat_abs b ≤ n → nat_abs (a -ℤ b) ≤ m + n
 abs_sub a b m n h k = grind (arith, ints)
 
-pub spot_small : (n i : ℕ) (low high x : ℤ) (s : Spot) → s ≡ spot_between i low high x → i + 1 < n → nat_abs low < 17179869184 → nat_abs high < 17179869184
-    → nat_abs x ≤ 68719476736 → low <ℤ high → IsSpot n s
+pub spot_small : (n i : ℕ) (low high x : ℤ) (s : Spot) → s ≡ spot_between i low high x → i + 1 < n → nat_abs low < TABLE_LIMIT → nat_abs high < TABLE_LIMIT
+    → nat_abs x ≤ RANGE_LIMIT → low <ℤ high → IsSpot n s
 spot_small n i low high x s e lt hl hh hx up = subst (IsSpot n) (sym e) record {
   low_in = omega arith;
   high_in = lt;
-  before_small = omega (arith, abs_sub x low 68719476736 17179869184 hx (omega arith));
-  after_small = omega (arith, abs_sub high x 17179869184 68719476736 (omega arith) hx);
+  before_small = omega (arith, abs_sub x low RANGE_LIMIT TABLE_LIMIT hx (omega arith));
+  after_small = omega (arith, abs_sub high x TABLE_LIMIT RANGE_LIMIT (omega arith) hx);
   span_some = omega (arith, ints, up);
-  span_small = omega (arith, abs_sub high low 17179869184 17179869184 (omega arith) (omega arith));
+  span_small = omega (arith, abs_sub high low TABLE_LIMIT TABLE_LIMIT (omega arith) (omega arith));
 }
 
 -- a field of one of two spots

@@ -1,7 +1,8 @@
 -- Lists with no fault are a table.
-use Rattle.std.proofs.Common.{ℕ, zero, suc, ◌+◌, ◌-◌, ◌*◌, ◌<◌, ◌≤◌, ◌≡◌, ◌∙◌, ap, sym, refl, Bool, true, false, not, ◌&&◌, ◌||◌, nat_eq, nat_lt, nat_le, if◌then◌else◌, List, length, Option, Some, None, is_some, ℤ, ◌<ℤ◌, ◌≤ℤ◌, int_le, nat_abs, arith}
+use Rattle.std.proofs.Common.{ℕ, ◌+◌, ◌-◌, ◌*◌, ◌<◌, ◌≡◌, refl, Bool, true, false, not, ◌||◌, nat_eq, nat_lt, nat_le, if◌then◌else◌, List, length, Option, Some, None, ℤ, ◌<ℤ◌, int_le, nat_abs, arith}
 use Rattle.std.proofs.lemmas.Int.{ints}
 use Rattle.std.proofs.lemmas.Bool.{true≢false, eqb-true, eqb-false, ltb-false, leb-false, lt-ltb, not-false}
+use Rattle.gs_quantity.specs.declared.limits.TheConstants.{TABLE_LIMIT}
 use Rattle.gs_quantity.specs.Lookup.{at, IsAxis, IsTable}
 use Rattle.gs_quantity.specs.TableFault.{falls, is_wide, first_place, bad_axis, bad_shape, fault_or, table_fault}
 use Rattle.gs_quantity.specs.declared.lookup.fault.TableErr.{TableErr}
@@ -37,7 +38,7 @@ axis_from xs shape rises narrow =
           let g : nat_lt 0 (i + 1) ≡ true = lt-ltb 0 (i + 1) (omega arith) in
           let e : i + 1 - 1 ≡ i = omega arith in
           above_from (at xs (i + 1)) (at xs i) (rw (g, e) at f);
-      narrow = λ i lt. le_false 17179869184 (nat_abs (at xs i)) (place_none (is_wide xs) (length xs) 0 narrow i (omega arith) (omega arith));
+      narrow = λ i lt. le_false TABLE_LIMIT (nat_abs (at xs i)) (place_none (is_wide xs) (length xs) 0 narrow i (omega arith) (omega arith));
     }
 
 pub table_from : (xs ys zs : List ℤ) → table_fault xs ys zs ≡ None → IsTable xs ys zs
@@ -54,5 +55,5 @@ table_from xs ys zs h =
       slews = axis_from xs axes.0 rx.0 wx.0;
       loads = axis_from ys axes.1 ry.0 wy.0;
       shape = eqb-true (length zs) (length xs * length ys) (not-false (nat_eq (length zs) (length xs * length ys)) both.1);
-      narrow = λ i lt. le_false 17179869184 (nat_abs (at zs i)) (place_none (is_wide zs) (length zs) 0 wz.0 i (omega arith) (omega arith));
+      narrow = λ i lt. le_false TABLE_LIMIT (nat_abs (at zs i)) (place_none (is_wide zs) (length zs) 0 wz.0 i (omega arith) (omega arith));
     }

@@ -4,6 +4,7 @@ use Rattle.std.specs.Prelude.{ℕ, ◌≡◌, ◌+◌, ◌*◌, ◌^◌, ◌<◌
 use Rattle.std.specs.Char.{is_ascii_digit}
 use Rattle.std.specs.Str.{all_ascii_digits}
 use Rattle.std.specs.Str.Parse.{digits_value, starts_with_minus, without_leading_sign}
+use Rattle.gs_quantity.specs.declared.limits.TheConstants.{NUMBER_LIMIT}
 use Rattle.gs_quantity.specs.declared.micro.NumErr.{NumErr}
 use Rattle.gs_quantity.specs.declared.micro.NumErr.TheVariants.{NotNumber, OutOfRange}
 use Rattle.gs_quantity.specs.Nearest.{nearest, IsNearest}
@@ -104,7 +105,7 @@ HasMagnitude (Some d) tens w = IsMagnitude d tens w
 -- the bytes are a decimal number whose magnitude is 2 ^ 40 or more
 abbrev pub IsFar : Option Decimal → ℕ → Type 0
 IsFar None tens = ⊥
-IsFar (Some d) tens = (w : ℕ) → IsMagnitude d tens w → 1099511627776 ≤ w
+IsFar (Some d) tens = (w : ℕ) → IsMagnitude d tens w → NUMBER_LIMIT ≤ w
 
 -- a magnitude with its sign
 abbrev pub signed_of : Bool → ℕ → ℤ
@@ -116,11 +117,11 @@ rounded_by n digit = if nat_lt digit 5 then n else n + 1
 
 -- r is the magnitude w, or none where it is 2 ^ 40 or more
 abbrev pub IsBounded : Option ℕ → ℕ → Type 0
-IsBounded r w = MatchOption r (1099511627776 ≤ w) (λ v. (v ≡ w) × (w < 1099511627776))
+IsBounded r w = MatchOption r (NUMBER_LIMIT ≤ w) (λ v. (v ≡ w) × (w < NUMBER_LIMIT))
 
 -- what fits: magnitudes below 2 ^ 40
 abbrev pub in_range : ℕ → Option ℕ
-in_range w = if nat_lt w 1099511627776 then Some w else None
+in_range w = if nat_lt w NUMBER_LIMIT then Some w else None
 
 abbrev pub signed_or_far : Bool → Option ℕ → Result ℤ NumErr
 signed_or_far negative None = Err OutOfRange

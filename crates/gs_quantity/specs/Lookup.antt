@@ -2,6 +2,7 @@
 -- library are read: straight lines between neighbouring points and beyond the first and the last, the exact fraction
 -- rounded once, ties upward.
 use Rattle.std.specs.Prelude.{ℕ, zero, suc, ◌≡◌, ◌+◌, ◌-◌, ◌*◌, ◌<◌, ◌≤◌, ◌==◌, Bool, List, length, slice_index_or, ℤ, pos, neg_ℤ, ◌+ℤ◌, ◌-ℤ◌, ◌*ℤ◌, ◌≤ℤ◌, ◌<ℤ◌, nat_abs, int_lt, if◌then◌else◌}
+use Rattle.gs_quantity.specs.declared.limits.TheConstants.{TABLE_LIMIT, RANGE_LIMIT}
 use Rattle.std.specs.Int.{int_div_euclid, int_min, int_max}
 
 -- the quantity at a place
@@ -13,14 +14,14 @@ pub record IsAxis (xs : List ℤ) : Type 0 where
   pub some : 0 < length xs
   pub few : length xs ≤ 64
   pub rising : (i : ℕ) → i + 1 < length xs → at xs i <ℤ at xs (i + 1)
-  pub narrow : (i : ℕ) → i < length xs → nat_abs (at xs i) < 17179869184
+  pub narrow : (i : ℕ) → i < length xs → nat_abs (at xs i) < TABLE_LIMIT
 
 -- two axes and a value for each pair of their points
 pub record IsTable (xs ys zs : List ℤ) : Type 0 where
   pub slews : IsAxis xs
   pub loads : IsAxis ys
   pub shape : length zs ≡ length xs * length ys
-  pub narrow : (i : ℕ) → i < length zs → nat_abs (at zs i) < 17179869184
+  pub narrow : (i : ℕ) → i < length zs → nat_abs (at zs i) < TABLE_LIMIT
 
 -- z held within low .. high
 abbrev pub held_in : ℤ → ℤ → ℤ → ℤ
@@ -28,7 +29,7 @@ held_in low high z = int_min (int_max z low) high
 
 -- a query below 0 counts as 0, one above 2 ^ 36 as 2 ^ 36
 abbrev pub held_query : ℤ → ℤ
-held_query x = held_in (pos 0) (pos 68719476736) x
+held_query x = held_in (pos 0) (pos RANGE_LIMIT) x
 
 -- the greatest i up to a place with xs[i] at or below x, or 0
 abbrev pub greatest_to : List ℤ → ℤ → ℕ → ℕ
@@ -91,18 +92,18 @@ denominator_of xs ys x y = span_of xs x *ℤ span_of ys y
 
 -- the least value: delays are signed, slews are not
 abbrev pub least_of : Bool → ℤ
-least_of signed = if signed then neg_ℤ (pos 68719476736) else pos 0
+least_of signed = if signed then neg_ℤ (pos RANGE_LIMIT) else pos 0
 
 -- the exact value at a query, rounded
 unfoldable pub rounded_of : List ℤ → List ℤ → List ℤ → ℤ → ℤ → ℤ
 rounded_of xs ys zs x y = nearest_of (numerator_of xs ys zs x y) (denominator_of xs ys x y)
 
 abbrev pub look_of : List ℤ → List ℤ → List ℤ → ℤ → ℤ → Bool → ℤ
-look_of xs ys zs x y signed = held_in (least_of signed) (pos 68719476736) (rounded_of xs ys zs (held_query x) (held_query y))
+look_of xs ys zs x y signed = held_in (least_of signed) (pos RANGE_LIMIT) (rounded_of xs ys zs (held_query x) (held_query y))
 
 -- In the rule's own words: r is the greatest whole number w with 2 * w * q at most 2 * n + q, held within the range, where
 -- n / q is the value at the query.
 pub record IsLook (xs ys zs : List ℤ) (x y : ℤ) (signed : Bool) (r : ℤ) : Type 0 where
   pub whole : ℤ
   pub nearest : IsNearestUp (numerator_of xs ys zs (held_query x) (held_query y)) (denominator_of xs ys (held_query x) (held_query y)) whole
-  pub held : r ≡ held_in (least_of signed) (pos 68719476736) whole
+  pub held : r ≡ held_in (least_of signed) (pos RANGE_LIMIT) whole

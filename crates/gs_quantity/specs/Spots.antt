@@ -1,5 +1,5 @@
 -- The spot at which a query falls on an axis, as the code holds it.
-use Rattle.std.specs.Prelude.{ℕ, ◌+◌, ◌*◌, ◌<◌, ◌≤◌, List, ℤ, pos, ◌+ℤ◌, ◌-ℤ◌, ◌*ℤ◌, ◌<ℤ◌, nat_abs, if◌then◌else◌}
+use Rattle.std.specs.Prelude.{ℕ, ◌+◌, ◌<◌, ◌≤◌, List, ℤ, pos, ◌+ℤ◌, ◌-ℤ◌, ◌*ℤ◌, ◌<ℤ◌, nat_abs, if◌then◌else◌}
 use Rattle.gs_quantity.specs.Lookup.{at, segment_of, is_single, corner_of, nearest_of}
 use Rattle.gs_quantity.specs.declared.lookup.axis.Spot.{Spot}
 

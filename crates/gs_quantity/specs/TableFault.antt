@@ -1,6 +1,7 @@
 -- Why lists are no table: the first cause, in the order shape, rising points, narrow numbers, at its first place. Places
 -- are counted from 0 through the slew points, on through the load points, and on through the values.
 use Rattle.std.specs.Prelude.{ℕ, zero, suc, ◌≡◌, ◌<◌, true, false, ◌+◌, ◌-◌, ◌*◌, ◌==◌, ◌&&◌, ◌||◌, not, Bool, nat_lt, nat_le, List, length, ℤ, nat_abs, int_le, Option, Some, None, if◌then◌else◌}
+use Rattle.gs_quantity.specs.declared.limits.TheConstants.{TABLE_LIMIT}
 use Rattle.gs_quantity.specs.Lookup.{at}
 use Rattle.gs_quantity.specs.declared.lookup.fault.TableErr.{TableErr}
 use Rattle.gs_quantity.specs.declared.lookup.fault.TableErr.TheVariants.{Shape, NotRising, TooWide}
@@ -11,7 +12,7 @@ falls xs i = nat_lt 0 i && int_le (at xs i) (at xs (i - 1))
 
 -- the magnitude at a place is 2 ^ 34 or more
 abbrev pub is_wide : List ℤ → ℕ → Bool
-is_wide xs i = nat_le 17179869184 (nat_abs (at xs i))
+is_wide xs i = nat_le TABLE_LIMIT (nat_abs (at xs i))
 
 -- the first of n places, from i on, at which a test holds
 abbrev pub first_place : (ℕ → Bool) → ℕ → ℕ → Option ℕ

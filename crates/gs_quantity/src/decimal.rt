@@ -8,11 +8,9 @@ ghost use Rattle.gs_quantity.specs.Nearest.{nearest};
 ghost use Rattle.gs_quantity.specs.Decimal.{digits_of, power_of, decimal_of, scaled, magnitude_of, signed_of, read_of, rounded_by, IsBounded, HasMagnitude, IsFar};
 ghost use Rattle.gs_quantity.specs.declared.micro.NumErr.TheVariants.{OutOfRange};
 
+use crate::limits::NUMBER_LIMIT;
 use crate::micro::{Micro, NumErr};
 use crate::spelling::{Spelling, take_apart};
-
-// Magnitudes are below this many millionths.
-const LIMIT: u64 = 1_099_511_627_776;
 
 fn digit_of(byte: u8) -> u64
     requires { is_ascii_digit byte ≡ true }
@@ -25,7 +23,7 @@ fn digit_of(byte: u8) -> u64
 fn bounded(magnitude: u64) -> Option<u64>
     ensures { IsBounded result magnitude }
 {
-    if magnitude < LIMIT {
+    if magnitude < NUMBER_LIMIT {
         Some(magnitude)
     } else {
         None
@@ -34,7 +32,7 @@ fn bounded(magnitude: u64) -> Option<u64>
 
 // A number, rounded by the first digit behind it.
 fn rounded(value: u64, next: u64) -> u64
-    requires { value < 1099511627776 }
+    requires { value < NUMBER_LIMIT }
     ensures { result ≡ rounded_by value next }
 {
     if next < 5 { value } else { value + 1 }
@@ -42,7 +40,7 @@ fn rounded(value: u64, next: u64) -> u64
 
 // A magnitude with this many zeros behind it.
 fn with_zeros(magnitude: u64, zeros: u128) -> Option<u64>
-    requires { magnitude < 1099511627776 }
+    requires { magnitude < NUMBER_LIMIT }
     ensures { IsBounded result (magnitude * 10 ^ zeros) }
 {
     if magnitude == 0 {
@@ -54,7 +52,7 @@ fn with_zeros(magnitude: u64, zeros: u128) -> Option<u64>
     let mut longer = magnitude;
     for _step in 0..zeros as u64 {
         longer *= 10;
-        if longer >= LIMIT {
+        if longer >= NUMBER_LIMIT {
             return None;
         }
     }
@@ -109,7 +107,7 @@ impl<'a> Spelling<'a> {
         let mut value = 0;
         for place in 0..count {
             value = value * 10 + self.digit(place);
-            if value >= LIMIT {
+            if value >= NUMBER_LIMIT {
                 return None;
             }
         }
@@ -179,7 +177,7 @@ impl<'a> Spelling<'a> {
 }
 
 fn signed(negative: bool, magnitude: u64) -> Micro
-    requires { magnitude < 1099511627776 }
+    requires { magnitude < NUMBER_LIMIT }
     ensures { result ≡ signed_of negative magnitude }
 {
     let value = magnitude as i64;

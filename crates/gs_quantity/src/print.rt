@@ -3,6 +3,7 @@ ghost use Rattle.std.specs.Prelude.{◌≡◌, ◌++◌, ◌∷◌, ◌<◌, ℕ
 ghost use Rattle.gs_quantity.specs.Print.{magnitude_text, micro_text};
 ghost use Rattle.gs_quantity.specs.Decimal.{read_of};
 
+use crate::limits::NUMBER_LIMIT;
 use crate::micro::{Mem, Micro};
 use itoa::Buffer;
 use std::alloc::{AllocError, Global};
@@ -40,6 +41,9 @@ fn append(m: Micro, out: &mut Vec<u8>) -> Result<(), AllocError>
 
 /// Appends a minus where the number is negative, the whole part, a point and six digits. The text grows on `out`'s own
 /// allocator. After `Mem`, `out` holds what it held.
+///
+/// A magnitude below `NUMBER_LIMIT`, 2^40 millionths, reads back as itself (`printed_reads_back`); any other is printed in
+/// the same form, and refused as out of range where it is read.
 pub fn print_micro(_alloc: Global, m: Micro, out: &mut Vec<u8>) -> Result<(), Mem>
     ensures { out.new.items ≡ (if is_ok result then out.old.items ++ micro_text m else out.old.items) }
 {
@@ -55,7 +59,7 @@ pub fn print_micro(_alloc: Global, m: Micro, out: &mut Vec<u8>) -> Result<(), Me
 
 /// The law that a number as it is printed reads back as itself.
 pub fn printed_reads_back(m: Micro)
-    requires { nat_abs m < 1099511627776 }
+    requires { nat_abs m < NUMBER_LIMIT }
     ensures { read_of (micro_text m) 0 ≡ Ok m }
 {
     let _ = m;

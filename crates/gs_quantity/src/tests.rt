@@ -1,6 +1,11 @@
 // Worked numbers, and each call once with ample memory.
+ghost use Rattle.std.specs.Prelude.{◌≡◌, ◌<◌};
+
 use super::*;
 use std::alloc::{AllocError, Global};
+use std::marker::Brand;
+use std::mem;
+use std::sync::ledger::{Blank, Ledger};
 use std::test::Fail;
 
 fn read(text: &str) -> Result<Micro, NumErr> {
@@ -153,4 +158,28 @@ fn refused_tables(rt: HostRuntime) -> Result<(), Fail> {
         Some(TableErr::TooWide { i: 4 })
     );
     Ok(())
+}
+
+// That a counter stands at a number, which its caller proves.
+fn stands_at<L: Ledger>(_steps: &Steps<L>, _count: u64)
+    requires { _steps.now ≡ _count }
+{}
+
+// Counts so far, and answers how many bytes the counter holds.
+fn count_to<L: Ledger>(blank: Blank, count: u64) -> usize
+    requires name { blank.name ≡ L.name }
+    requires parts { blank.parts ≡ L.parts }
+    requires some { 0 < blank.parts }
+{
+    let mut steps = Steps::<L>::begin(blank);
+    for _step in 0..count {
+        steps.tick();
+    }
+    stands_at(&steps, count);
+    mem::size_of::<Steps<L>>()
+}
+
+#[test]
+fn a_counter_holds_no_bytes(rt: HostRuntime) {
+    assert_eq!(rt; count_to::<Brand>(Blank::new(1), 3), 0);
 }

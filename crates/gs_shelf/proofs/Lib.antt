@@ -1,2 +1,4 @@
 pub mod FileLaws
 pub mod FailureLaws
+pub mod HostLaws
+pub mod TransferLaws

@@ -1,6 +1,6 @@
-ghost use Rattle.std.specs.Prelude.{◌≡◌, ℕ, ◌≤◌, [], ◌++◌, List, length, IfOk, OnOk, OnErr};
+ghost use Rattle.std.specs.Prelude.{◌≡◌, ◌≢◌, ℕ, ◌≤◌, [], ◌++◌, List, length, IfOk, OnOk, OnErr};
 ghost use Rattle.gs_shelf.specs.Files.{Files, content, Reads, AllStay, OthersStay, HoldsPart, GrewByPart};
-ghost use Rattle.gs_shelf.specs.Faults.{Counts, NoneFell, HasCause};
+ghost use Rattle.gs_shelf.specs.Faults.{Counts, NoneFell, CountsStay, HasCause};
 ghost use Rattle.gs_shelf.specs.declared.calls.Op.TheVariants.{Fetch, Store, Say};
 
 use std::alloc::{AllocError, AllocFailed, Global};
@@ -72,6 +72,7 @@ pub trait Shelf {
         ensures stay { AllStay (files self.old) (files self.new) }
         ensures said { said self.new ≡ said self.old }
         ensures later { NoneFell (faults self.old) (faults self.new) }
+        ensures still { result ≢ Err ShelfErr.Failed → CountsStay (faults self.old) (faults self.new) }
         ensures cause { HasCause (faults self.old Fetch name.now) (faults self.new Fetch name.now) result };
 
     /// Makes the file hold `whole`, whether or not there was such a file.
@@ -81,13 +82,16 @@ pub trait Shelf {
         ensures others { OthersStay name.now (files self.old) (files self.new) }
         ensures said { said self.new ≡ said self.old }
         ensures later { NoneFell (faults self.old) (faults self.new) }
+        ensures still { result ≢ Err ShelfErr.Failed → CountsStay (faults self.old) (faults self.new) }
         ensures cause { HasCause (faults self.old Store name.now) (faults self.new Store name.now) result };
 
     /// Appends the bytes to what was said: on a real console, prints them.
     fn say(&mut self, alloc: Global, bytes: &[u8]) -> Result<(), ShelfErr>
         ensures ok { tells → OnOk result (said self.new ≡ said self.old ++ bytes.now) }
         ensures err { tells → OnErr result (GrewByPart bytes.now (said self.old) (said self.new)) }
+        ensures memory { result ≡ Err ShelfErr.Mem → said self.new ≡ said self.old }
         ensures stay { AllStay (files self.old) (files self.new) }
         ensures later { NoneFell (faults self.old) (faults self.new) }
+        ensures still { result ≢ Err ShelfErr.Failed → CountsStay (faults self.old) (faults self.new) }
         ensures cause { HasCause (faults self.old Say []) (faults self.new Say []) result };
 }

@@ -1,5 +1,5 @@
 use crate::calls::{Shelf, ShelfErr};
-use crate::lists::{Bytes, FileList};
+use crate::lists::{Bytes, FileList, append};
 use crate::pieces::copy_piece;
 use std::alloc::Global;
 
@@ -54,13 +54,13 @@ impl Shelf for NeverFails {
         Ok(())
     }
 
-    fn say(&mut self, _alloc: Global, bytes: &[u8]) -> Result<(), ShelfErr>
+    fn say(&mut self, alloc: Global, bytes: &[u8]) -> Result<(), ShelfErr>
         ensures ok { OnOk result (self.new.said ≡ self.old.said ++ bytes.now) }
         ensures memory { IfErr result (λ e. e ≡ Mem) }
         ensures err { OnErr result (self.new.said ≡ self.old.said) }
         ensures stay { self.new.files ≡ self.old.files }
     {
-        self.said.append(bytes)?;
+        append(alloc, &mut self.said, bytes)?;
         Ok(())
     }
 }

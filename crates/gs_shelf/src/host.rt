@@ -1,9 +1,10 @@
-ghost use Rattle.std.specs.Prelude.{◌≡◌, ℕ, ◌≤◌, [], List, Option, None, IfOk, length};
-ghost use Rattle.gs_shelf.specs.Faults.{Rose};
+ghost use Rattle.std.specs.Prelude.{◌≡◌, ℕ, ◌≤◌, [], List, Option, None, IfOk, OnOk, length};
+ghost use Rattle.gs_shelf.specs.Faults.{next_count};
+ghost use Rattle.gs_shelf.specs.Transfer.{ReadsFile, WritesFile};
 
 use crate::calls::{Shelf, ShelfErr};
+use crate::transfer::{read_from, write_out};
 use std::alloc::Global;
-use std::io::{Read, Seek, SeekFrom, Write};
 use std::rt::Files;
 use std::{fs, io};
 
@@ -27,8 +28,8 @@ impl<'a, R: Files + Print> HostShelf<'a, R> {
     /// Counts one fault.
     fn failed(&mut self) -> ShelfErr
         ensures failed { result ≡ ShelfErr.Failed }
-        ensures counted { Rose self.old.faults self.new.faults }
-        ensures rises { self.old.faults ≤ self.new.faults }
+        ensures counted { self.new.faults ≡ next_count self.old.faults }
+        ensures later { self.old.faults ≤ self.new.faults }
     {
         self.faults = self.faults.saturating_add(1);
         ShelfErr::Failed
@@ -41,48 +42,25 @@ impl<R: Files + Print> Drop for HostShelf<'_, R> {
     }
 }
 
-/// Fills the room from the reader, and answers how many bytes came before its end.
-fn fill_room<F: Read>(reader: &mut F, room: &mut [u8]) -> io::Result<usize>
-    ensures { IfOk result (λ n. n ≤ length room.new) }
-{
-    let mut count = 0;
-    while count < room.len() {
-        let came = reader.read(&mut room[count..])?;
-        if came == 0 {
-            return Ok(count);
-        }
-        count += came;
-    }
-    Ok(count)
-}
-
 fn read_piece<R: Files>(rt: &R, name: &str, from: u64, room: &mut [u8]) -> io::Result<usize>
-    ensures { IfOk result (λ n. n ≤ length room.new) }
+    ensures fits { IfOk result (λ n. n ≤ length room.new) }
+    ensures bytes { IfOk result (λ n. ReadsFile R.File.stream_position R.File.remaining from n room.new) }
 {
     let mut file = fs::open(rt, name)?;
-    file.seek(SeekFrom::Start(from))?;
-    fill_room(&mut file, room)
+    read_from(&mut file, from, room)
 }
 
-/// Writes all the bytes, in pieces as large as the writer takes.
-fn write_out<W: Write>(writer: &mut W, bytes: &[u8]) -> io::Result<()> {
-    let mut count = 0;
-    while count < bytes.len() {
-        let took = writer.write(&bytes[count..])?;
-        if took == 0 {
-            return Err(io::Error::from(io::ErrorKind::WriteZero));
-        }
-        count += took;
-    }
-    writer.flush()
-}
-
-fn write_file<R: Files>(rt: &R, name: &str, whole: &[u8]) -> io::Result<()> {
+fn write_file<R: Files>(rt: &R, name: &str, whole: &[u8]) -> io::Result<()>
+    ensures { OnOk result (WritesFile R.File.contents whole.now) }
+{
     let mut file = fs::create(rt, name)?;
     write_out(&mut file, whole)
 }
 
 impl<R: Files + Print> Shelf for HostShelf<'_, R> {
+    ghost use Rattle.std.specs.Prelude.{◌≡◌, ◌≤◌, [], IfOk, IfErr, OnOk, OnErr, length};
+    ghost use Rattle.gs_shelf.specs.declared.calls.ShelfErr.TheVariants.{Failed};
+
     ghost tells = { ⊥ };
 
     ghost files = { λ _ _. None };
@@ -97,21 +75,39 @@ impl<R: Files + Print> Shelf for HostShelf<'_, R> {
         name: &str,
         from: u64,
         room: &mut [u8],
-    ) -> Result<u64, ShelfErr> {
+    ) -> Result<u64, ShelfErr>
+        ensures fits { IfOk result (λ n. n ≤ length room.new) }
+        ensures read { IfOk result (λ n. ReadsFile R.File.stream_position R.File.remaining from n room.new) }
+        ensures failed { IfErr result (λ e. e ≡ Failed) }
+        ensures still { OnOk result (self.new.faults ≡ self.old.faults) }
+        ensures counted { OnErr result (self.new.faults ≡ next_count self.old.faults) }
+        ensures later { self.old.faults ≤ self.new.faults }
+    {
         match read_piece(self.rt, name, from, room) {
             Ok(count) => Ok(count as u64),
             Err(_) => Err(self.failed()),
         }
     }
 
-    fn store(&mut self, _alloc: Global, name: &str, whole: &[u8]) -> Result<(), ShelfErr> {
+    fn store(&mut self, _alloc: Global, name: &str, whole: &[u8]) -> Result<(), ShelfErr>
+        ensures written { OnOk result (WritesFile R.File.contents whole.now) }
+        ensures failed { IfErr result (λ e. e ≡ Failed) }
+        ensures still { OnOk result (self.new.faults ≡ self.old.faults) }
+        ensures counted { OnErr result (self.new.faults ≡ next_count self.old.faults) }
+        ensures later { self.old.faults ≤ self.new.faults }
+    {
         match write_file(self.rt, name, whole) {
             Ok(()) => Ok(()),
             Err(_) => Err(self.failed()),
         }
     }
 
-    fn say(&mut self, _alloc: Global, bytes: &[u8]) -> Result<(), ShelfErr> {
+    fn say(&mut self, _alloc: Global, bytes: &[u8]) -> Result<(), ShelfErr>
+        ensures failed { IfErr result (λ e. e ≡ Failed) }
+        ensures still { OnOk result (self.new.faults ≡ self.old.faults) }
+        ensures counted { OnErr result (self.new.faults ≡ next_count self.old.faults) }
+        ensures later { self.old.faults ≤ self.new.faults }
+    {
         match write_out(&mut io::writer(self.rt), bytes) {
             Ok(()) => Ok(()),
             Err(_) => Err(self.failed()),

@@ -2,7 +2,7 @@
 //!
 //! A program reads and writes files through a `Shelf`. Over memory (`MemShelf`, `NeverFails`) the contract says what
 //! each file holds after each call; over the system (`HostShelf`) it says only that each fault was counted, since no
-//! contract can say what a real file holds. `read_whole` fetches a whole file of at most `2^28` bytes.
+//! contract can say what a real file holds. `read_whole` fetches a whole file of at most `FILE_LIMIT` bytes, `2^28`.
 //!
 //! Cost: `HostShelf` opens the file for each call and reads or writes in pieces as large as it is given; `read_whole`
 //! asks for pieces of 1 MiB. The shelves over memory look names up one by one: they serve tests.
@@ -18,11 +18,12 @@ mod memory;
 mod pieces;
 #[cfg(test)]
 mod tests;
+mod transfer;
 mod whole;
 
 pub use calls::{Op, Shelf, ShelfErr};
 pub use faultless::NeverFails;
 pub use host::HostShelf;
-pub use lists::{Bytes, Failure, Failures, FileList, Numbers, StoredFile};
+pub use lists::{Bytes, Failure, Failures, FileList, Numbers, StoredFile, append};
 pub use memory::MemShelf;
-pub use whole::{FetchErr, LIMIT, read_whole};
+pub use whole::{FILE_LIMIT, FetchErr, read_whole};

@@ -1,7 +1,7 @@
 ghost use Rattle.std.specs.Prelude.{◌≤◌};
 
 use crate::calls::{Op, Shelf, ShelfErr};
-use crate::lists::{Bytes, Failures, FileList, Numbers};
+use crate::lists::{Bytes, Failures, FileList, Numbers, append, contains, enter};
 use crate::pieces::copy_piece;
 use std::alloc::Global;
 
@@ -24,15 +24,15 @@ pub struct MemShelf {
 
 impl MemShelf {
     ghost use Rattle.std.specs.Prelude.{◌≡◌, Err};
-    ghost use Rattle.gs_shelf.specs.Faults.{Rose, NoneFell};
+    ghost use Rattle.gs_shelf.specs.Faults.{next_count, Rose, NoneFell};
     ghost use Rattle.gs_shelf.specs.Lists.{times};
-    ghost use Rattle.gs_shelf.specs.Memory.{next_call, is_planned, entered};
+    ghost use Rattle.gs_shelf.specs.Memory.{is_planned, entered};
     ghost use Rattle.gs_shelf.specs.declared.calls.ShelfErr.TheVariants.{Failed};
 
     /// Gives this call its number, and answers whether a call of that number fails.
     fn begin(&mut self) -> bool
         ensures planned { result ≡ is_planned self.old.fails self.old.calls }
-        ensures number { self.new.calls ≡ next_call self.old.calls }
+        ensures number { self.new.calls ≡ next_count self.old.calls }
         ensures files { self.new.files ≡ self.old.files }
         ensures said { self.new.said ≡ self.old.said }
         ensures failed { self.new.failed ≡ self.old.failed }
@@ -40,7 +40,7 @@ impl MemShelf {
     {
         let number = self.calls;
         self.calls = number.saturating_add(1);
-        self.fails.contains(number)
+        contains(&self.fails, number)
     }
 
     /// Enters the failed call. Without room for the entry nothing is entered.
@@ -53,7 +53,7 @@ impl MemShelf {
         ensures said { self.new.said ≡ self.old.said }
         ensures plan { (self.new.fails ≡ self.old.fails) × (self.new.most ≡ self.old.most) }
     {
-        match self.failed.add(alloc, op, name) {
+        match enter(alloc, &mut self.failed, op, name) {
             Ok(()) => ShelfErr::Failed,
             Err(_) => ShelfErr::Mem,
         }
@@ -61,11 +61,11 @@ impl MemShelf {
 }
 
 impl Shelf for MemShelf {
-    ghost use Rattle.std.specs.Prelude.{◌≡◌, ◌↔◌, ◌||◌, ◌-◌, ◌++◌, [], true, IfOk, IsErr, IsTrue, OnOk, OnErr, length, min, is_none, Some};
+    ghost use Rattle.std.specs.Prelude.{◌≡◌, ◌≢◌, ◌↔◌, ◌||◌, ◌-◌, ◌++◌, [], true, IfOk, IsErr, IsTrue, OnOk, OnErr, length, min, is_none, Some};
     ghost use Rattle.gs_shelf.specs.Files.{content, Reads, AllStay, OthersStay, HoldsPart, GrewByPart};
-    ghost use Rattle.gs_shelf.specs.Faults.{NoneFell, HasCause};
+    ghost use Rattle.gs_shelf.specs.Faults.{next_count, NoneFell, CountsStay, HasCause};
     ghost use Rattle.gs_shelf.specs.Lists.{lookup, times};
-    ghost use Rattle.gs_shelf.specs.Memory.{next_call, is_planned, entered};
+    ghost use Rattle.gs_shelf.specs.Memory.{is_planned, entered};
     ghost use Rattle.gs_shelf.specs.declared.calls.Op.TheVariants.{Fetch, Store, Say};
     ghost use Rattle.gs_shelf.specs.declared.calls.ShelfErr.TheVariants.{Failed, Mem};
 
@@ -90,10 +90,11 @@ impl Shelf for MemShelf {
         ensures bytes { IfOk result (λ n. Reads (content (lookup self.old.files) name.now) from n room.new) }
         ensures stay { self.new.files ≡ self.old.files }
         ensures said { self.new.said ≡ self.old.said }
-        ensures number { self.new.calls ≡ next_call self.old.calls }
+        ensures number { self.new.calls ≡ next_count self.old.calls }
         ensures plan { (self.new.fails ≡ self.old.fails) × (self.new.most ≡ self.old.most) }
         ensures entered { self.new.failed ≡ entered Fetch name.now self.old.failed result }
         ensures later { NoneFell (times self.old.failed) (times self.new.failed) }
+        ensures still { result ≢ Err Failed → CountsStay (times self.old.failed) (times self.new.failed) }
         ensures cause { HasCause (times self.old.failed Fetch name.now) (times self.new.failed Fetch name.now) result }
     {
         let is_planned = self.begin();
@@ -113,10 +114,11 @@ impl Shelf for MemShelf {
         ensures err { OnErr result (self.new.files ≡ self.old.files) }
         ensures others { OthersStay name.now (lookup self.old.files) (lookup self.new.files) }
         ensures said { self.new.said ≡ self.old.said }
-        ensures number { self.new.calls ≡ next_call self.old.calls }
+        ensures number { self.new.calls ≡ next_count self.old.calls }
         ensures plan { (self.new.fails ≡ self.old.fails) × (self.new.most ≡ self.old.most) }
         ensures entered { self.new.failed ≡ entered Store name.now self.old.failed result }
         ensures later { NoneFell (times self.old.failed) (times self.new.failed) }
+        ensures still { result ≢ Err Failed → CountsStay (times self.old.failed) (times self.new.failed) }
         ensures cause { HasCause (times self.old.failed Store name.now) (times self.new.failed Store name.now) result }
     {
         if self.begin() {
@@ -132,16 +134,17 @@ impl Shelf for MemShelf {
         ensures ok { OnOk result (self.new.said ≡ self.old.said ++ bytes.now) }
         ensures err { OnErr result (self.new.said ≡ self.old.said) }
         ensures stay { self.new.files ≡ self.old.files }
-        ensures number { self.new.calls ≡ next_call self.old.calls }
+        ensures number { self.new.calls ≡ next_count self.old.calls }
         ensures plan { (self.new.fails ≡ self.old.fails) × (self.new.most ≡ self.old.most) }
         ensures entered { self.new.failed ≡ entered Say [] self.old.failed result }
         ensures later { NoneFell (times self.old.failed) (times self.new.failed) }
+        ensures still { result ≢ Err Failed → CountsStay (times self.old.failed) (times self.new.failed) }
         ensures cause { HasCause (times self.old.failed Say []) (times self.new.failed Say []) result }
     {
         if self.begin() {
             return Err(self.refuse(alloc, Op::Say, b""));
         }
-        self.said.append(bytes)?;
+        append(alloc, &mut self.said, bytes)?;
         Ok(())
     }
 }

@@ -5,10 +5,12 @@ use crate::faultless::NeverFails;
 use crate::host::HostShelf;
 use crate::lists::{Bytes, Failures, FileList, Numbers};
 use crate::memory::MemShelf;
+use crate::transfer::{fill_room, write_out};
 use crate::whole::{FetchErr, read_whole};
 use std::alloc::{AllocError, Global};
+use std::io::{Read, Write};
 use std::test::Fail;
-use std::{fs, process};
+use std::{fs, io, process};
 
 /// A shelf with the file `a` of five bytes.
 fn one_file(alloc: Global, fails: &[u64], most: u64) -> Result<MemShelf, AllocError>
@@ -18,10 +20,10 @@ fn one_file(alloc: Global, fails: &[u64], most: u64) -> Result<MemShelf, AllocEr
     files.put(alloc, b"a", b"hello")?;
     Ok(MemShelf {
         files,
-        said: Bytes::new(alloc),
+        said: Bytes::empty(alloc),
         calls: 0,
         fails: Numbers::from_vec(Vec::from_slice(alloc, fails)?),
-        failed: Failures::new(alloc),
+        failed: Failures::empty(alloc),
         most,
     })
 }
@@ -43,7 +45,11 @@ fn each_call_fails_in_turn(rt: HostRuntime) -> Result<(), Fail> {
             k != 1,
             "the file, failing {k}"
         );
-        assert_eq!(rt; shelf.said.is(b"done\n"), k != 2, "the line, failing {k}");
+        assert_eq!(rt;
+            shelf.said.as_slice() == b"done\n".as_slice(),
+            k != 2,
+            "the line, failing {k}"
+        );
         assert_eq!(rt; shelf.calls, 3);
         assert_eq!(rt;
             shelf.failed.into_vec().is_empty(),
@@ -65,7 +71,7 @@ fn a_missing_file_is_a_fault_and_entered(rt: HostRuntime) -> Result<(), Fail> {
     let failed = shelf.failed.into_vec();
     assert_eq!(rt; failed.len(), 1);
     assert_eq!(rt; failed[0].op, Op::Fetch);
-    assert!(rt; failed[0].name.is(b"b"));
+    assert!(rt; failed[0].name.as_slice() == b"b".as_slice());
     Ok(())
 }
 
@@ -93,7 +99,7 @@ fn nothing_fails_without_faults(rt: HostRuntime) -> Result<(), Fail> {
     let alloc = rt.alloc();
     let mut shelf = NeverFails {
         files: FileList::new(alloc),
-        said: Bytes::new(alloc),
+        said: Bytes::empty(alloc),
     };
     assert_eq!(rt; read_whole(alloc, &mut shelf, "a")?.len(), 0);
     shelf.store(alloc, "a", b"one")?;
@@ -150,4 +156,95 @@ fn a_real_file_is_written_and_read(rt: HostRuntime) -> Result<(), Fail> {
     );
     assert_eq!(rt; shelf.faults, 4);
     Ok(())
+}
+
+/// A writer that takes one byte at a time, and none once it holds `most`.
+#[derive(Drop)]
+struct SlowWriter {
+    bytes: Vec<u8>,
+    most: usize,
+    flushed: bool,
+}
+
+impl Write for SlowWriter {
+    fn write(&mut self, buf: &[u8]) -> io::Result<usize> {
+        match buf.first() {
+            Some(byte) if self.bytes.len() < self.most => {
+                self.bytes.push(*byte)?;
+                Ok(1)
+            }
+            _ => Ok(0),
+        }
+    }
+
+    fn flush(&mut self) -> io::Result<()> {
+        self.flushed = true;
+        Ok(())
+    }
+}
+
+#[test]
+fn a_slow_writer_gets_every_byte_once(rt: HostRuntime) -> Result<(), Fail> {
+    for most in 4..7 {
+        let mut writer = SlowWriter {
+            bytes: Vec::new(rt.alloc()),
+            most,
+            flushed: false,
+        };
+        let written = write_out(&mut writer, b"hello");
+        assert_eq!(rt; written.is_ok(), most != 4, "of at most {most} bytes");
+        assert_eq!(rt; writer.flushed, most != 4, "of at most {most} bytes");
+        let text = if most == 4 {
+            b"hell".as_slice()
+        } else {
+            b"hello".as_slice()
+        };
+        assert_eq!(rt; writer.bytes.as_slice(), text, "of at most {most} bytes");
+    }
+    Ok(())
+}
+
+/// A reader that gives one byte at a time, and an error in place of byte number `cut`.
+#[derive(Drop)]
+struct SlowReader<'a> {
+    text: &'a [u8],
+    at: usize,
+    cut: usize,
+}
+
+impl Read for SlowReader<'_> {
+    fn read(&mut self, buf: &mut [u8]) -> io::Result<usize> {
+        if self.at == self.cut {
+            return Err(io::Error::from(io::ErrorKind::BrokenPipe));
+        }
+        match (self.text.get(self.at), buf.first_mut()) {
+            (Some(byte), Some(place)) => {
+                *place = *byte;
+                self.at = self.at.saturating_add(1);
+                Ok(1)
+            }
+            _ => Ok(0),
+        }
+    }
+}
+
+#[test]
+fn a_slow_reader_fills_the_room(rt: HostRuntime) {
+    for (len, cut, came) in [(3, 9, 3), (5, 9, 5), (8, 9, 5), (3, 3, 3), (4, 3, 9)] {
+        let mut reader = SlowReader {
+            text: b"hello",
+            at: 0,
+            cut,
+        };
+        let mut room = [b'.'; 8];
+        let count = fill_room(&mut reader, &mut room[..len]).unwrap_or(9);
+        assert_eq!(rt; count, came, "room for {len}, cut at {cut}");
+        let text = if count == 9 {
+            b"hel.....".as_slice()
+        } else {
+            b"hello".as_slice()
+        };
+        let text = text.get(..count).unwrap_or(text);
+        assert!(rt; room.starts_with(text), "room for {len}, cut at {cut}");
+    }
 }

@@ -1,6 +1,6 @@
-ghost use Rattle.std.specs.Prelude.{◌≡◌, ◌≤◌, ◌<◌, ◌+◌, ◌*◌, ◌^◌, length, IfOk, IfErr};
+ghost use Rattle.std.specs.Prelude.{◌≡◌, ◌≢◌, ◌≤◌, ◌<◌, ◌+◌, ◌*◌, ◌^◌, length, IfOk, IfErr};
 ghost use Rattle.gs_shelf.specs.Files.{content, AllStay};
-ghost use Rattle.gs_shelf.specs.Faults.{NoneFell};
+ghost use Rattle.gs_shelf.specs.Faults.{NoneFell, CountsStay};
 ghost use Rattle.gs_shelf.specs.Whole.{FetchCause};
 ghost use Rattle.gs_shelf.specs.declared.calls.Op.TheVariants.{Fetch};
 
@@ -8,7 +8,7 @@ use crate::calls::{Shelf, ShelfErr};
 use std::alloc::{AllocError, Global};
 
 /// The most bytes of a file that is read, `2^28`.
-pub const LIMIT: usize = 268_435_456;
+pub const FILE_LIMIT: usize = 1 << 28;
 
 /// How many bytes are asked for in one fetch, 1 MiB.
 const PIECE: usize = 1_048_576;
@@ -65,15 +65,16 @@ fn read_pieces<H: Shelf>(
 ) -> Result<Vec<u8>, FetchErr>
     requires { 0 < length room.old }
     ensures ok { H.tells → IfOk result (λ v. v.items ≡ content (H.files shelf.old) name.now) }
-    ensures within { IfOk result (λ v. length v.items ≤ 2 ^ 28) }
-    ensures err { IfErr result (FetchCause H.tells (2 ^ 28) (H.faults shelf.old Fetch name.now) (H.faults shelf.new Fetch name.now) (content (H.files shelf.old) name.now)) }
+    ensures within { IfOk result (λ v. length v.items ≤ FILE_LIMIT) }
+    ensures err { IfErr result (FetchCause H.tells FILE_LIMIT (H.faults shelf.old Fetch name.now) (H.faults shelf.new Fetch name.now) (content (H.files shelf.old) name.now)) }
     ensures stay { AllStay (H.files shelf.old) (H.files shelf.new) }
     ensures said { H.said shelf.new ≡ H.said shelf.old }
     ensures later { NoneFell (H.faults shelf.old) (H.faults shelf.new) }
+    ensures still { result ≢ Err FetchErr.Failed → CountsStay (H.faults shelf.old) (H.faults shelf.new) }
 {
     let mut bytes = Vec::new(alloc);
     loop {
-        let left = LIMIT - bytes.len();
+        let left = FILE_LIMIT - bytes.len();
         let most = room.len().min(left + 1);
         let piece = &mut room[..most];
         let count = shelf.fetch(alloc, name, bytes.len() as u64, piece)? as usize;
@@ -87,14 +88,15 @@ fn read_pieces<H: Shelf>(
     }
 }
 
-/// All bytes of a file, of which there are at most `LIMIT`. Past byte number `LIMIT + 1` nothing is read.
+/// All bytes of a file, of which there are at most `FILE_LIMIT`. Past byte number `FILE_LIMIT + 1` nothing is read.
 pub fn read_whole<H: Shelf>(alloc: Global, shelf: &mut H, name: &str) -> Result<Vec<u8>, FetchErr>
     ensures ok { H.tells → IfOk result (λ v. v.items ≡ content (H.files shelf.old) name.now) }
-    ensures within { IfOk result (λ v. length v.items ≤ 2 ^ 28) }
-    ensures err { IfErr result (FetchCause H.tells (2 ^ 28) (H.faults shelf.old Fetch name.now) (H.faults shelf.new Fetch name.now) (content (H.files shelf.old) name.now)) }
+    ensures within { IfOk result (λ v. length v.items ≤ FILE_LIMIT) }
+    ensures err { IfErr result (FetchCause H.tells FILE_LIMIT (H.faults shelf.old Fetch name.now) (H.faults shelf.new Fetch name.now) (content (H.files shelf.old) name.now)) }
     ensures stay { AllStay (H.files shelf.old) (H.files shelf.new) }
     ensures said { H.said shelf.new ≡ H.said shelf.old }
     ensures later { NoneFell (H.faults shelf.old) (H.faults shelf.new) }
+    ensures still { result ≢ Err FetchErr.Failed → CountsStay (H.faults shelf.old) (H.faults shelf.new) }
 {
     let mut room = new_room(alloc, PIECE)?;
     read_pieces(alloc, shelf, name, &mut room)

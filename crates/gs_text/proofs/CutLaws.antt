@@ -1,12 +1,15 @@
 -- How the cutting goes on: past white, past a piece, at a fault and at the end of the text.
-use Rattle.std.proofs.Common.{◌≡◌, ◌∙◌, sym, ap, refl, ℕ, zero, suc, ◌+◌, ◌-◌, ◌<◌, ◌≤◌, ◌==◌, Bool, true, false, cond, List, [], ◌∷◌, ◌++◌, Result, Ok, Err, length, get_or, take, drop, append_assoc, add-zero, append-nil, length-drop, length-take, arith}
+use Rattle.std.proofs.Common.{◌≡◌, ◌∙◌, sym, ap, refl, ℕ, zero, suc, ◌+◌, ◌-◌, ◌<◌, ◌≤◌, ◌==◌, Bool, true, false, cond, List, [], ◌∷◌, ◌++◌, Result, Ok, Err, length, slice_index, get_or, take, drop, append_assoc, add-zero, length-drop, length-take, arith}
 use Rattle.std.proofs.lemmas.List.{drop_more, drop_all, take_rest, drop-drop}
-use Rattle.std.proofs.lemmas.List.Sums.{sum_by-cons}
+use Rattle.std.proofs.lemmas.List.Sums.{sum_by-cons, count_by-le-length}
 use Rattle.std.specs.List.{count_by}
-use Rattle.gs_text.specs.Cut.{cut, put, onto, line_after, pieces}
+use Rattle.gs_text.specs.Before.{brace_by, in_braces, latest_line, has_begun}
+use Rattle.gs_text.specs.Cut.{cut, put, onto, line_after, first_after, line_of, piece_at}
+use Rattle.gs_text.specs.Cutter.{Agrees, IsPlace, left, past_white, past_piece, past_comment}
 use Rattle.gs_text.specs.Front.{front}
-use Rattle.gs_text.specs.Pieces.{IsOneLine}
+use Rattle.gs_text.specs.Pieces.{IsOneLine, LiesIn}
 use Rattle.gs_text.proofs.FrontLaws.{one_line}
+use Rattle.gs_text.specs.declared.cutter.Place.{Place}
 use Rattle.gs_text.specs.declared.kinds.Kind.{Kind}
 use Rattle.gs_text.specs.declared.kinds.Piece.{Piece}
 use Rattle.gs_text.specs.declared.kinds.Style.{Style}
@@ -18,9 +21,6 @@ use Rattle.gs_text.specs.declared.scan.Front.TheVariants.{Gap, Found, Passed}
 abbrev pub breaks : List ℕ → ℕ
 breaks bs = count_by (λ c. c == 10) bs
 
-abbrev pub piece_at : Kind → (at len line : ℕ) → Piece
-piece_at kind at len line = record { kind = kind; from = at; to = at + len; line = line }
-
 by_case : (b : Bool) (line x y : ℕ) → y ≡ cond b 1 0 + x → cond b (line + 1) line + x ≡ line + y
 by_case true line x y e = omega arith
 by_case false line x y e = omega arith
@@ -28,106 +28,174 @@ by_case false line x y e = omega arith
 pub line_after-breaks : (c line : ℕ) (cs : List ℕ) → line_after c line + breaks cs ≡ line + breaks (c ∷ cs)
 line_after-breaks c line cs = by_case (c == 10) line (breaks cs) (breaks (c ∷ cs)) (sum_by-cons (λ x. cond (x == 10) 1 0) c cs)
 
--- bytes that belong to the last piece are passed over, and their newlines counted
-pub skipped : (style : Style) (line at n : ℕ) (bs : List ℕ) → n ≤ length bs
-    → cut style line at n bs ≡ cut style (line + breaks (take n bs)) (at + n) 0 (drop n bs)
-unfolding cut
-skipped style line at zero bs h = simp add-zero
-skipped style line at (suc n) [] h = refl
-skipped style line at (suc n) (c ∷ cs) h =
-    let lines : line_after c line + breaks (take n cs) ≡ line + breaks (c ∷ take n cs) = line_after-breaks c line (take n cs) in
-    let ats : at + 1 + n ≡ at + suc n = omega arith in
-    skipped style (line_after c line) (at + 1) n cs (omega arith) ∙ cc (lines, ats)
-
 pub onto-append : (ps qs : List Piece) (r : Result (List Piece) TextErr) → onto (ps ++ qs) r ≡ onto ps (onto qs r)
 onto-append ps qs (Ok rs) = ap Ok (append_assoc ps qs rs)
 onto-append ps qs (Err e) = refl
 
--- what is cut from the byte c on, by what begins there
-pub cut_front : (style : Style) (line at c : ℕ) (cs : List ℕ) (f : Front) → f ≡ front style c cs
-    → cut style line at 0 (c ∷ cs) ≡ put f line at (λ skip. cut style (line_after c line) (at + 1) skip cs)
-unfolding cut
-cut_front style line at c cs f e = rw e refl
+module _ (style : Style) (bytes : List ℕ) where
+  -- bytes that belong to the last piece are passed over, and their newlines counted
+  pub skipped : (before : List Piece) (line first at n : ℕ) (bs : List ℕ) → n ≤ length bs
+      → cut style bytes before line first at n bs ≡ cut style bytes before (line + breaks (take n bs)) first (at + n) 0 (drop n bs)
+  unfolding cut
+  skipped before line first at zero bs h = simp add-zero
+  skipped before line first at (suc n) [] h = refl
+  skipped before line first at (suc n) (c ∷ cs) h =
+      let lines : line_after c line + breaks (take n cs) ≡ line + breaks (c ∷ take n cs) = line_after-breaks c line (take n cs) in
+      let ats : at + 1 + n ≡ at + suc n = omega arith in
+      skipped before (line_after c line) first (at + 1) n cs (omega arith) ∙ cc (lines, ats)
 
--- a piece, and what is cut from its end on
-pub cut_found : (style : Style) (line at c : ℕ) (cs : List ℕ) (kind : Kind) (len : ℕ) → Found kind len ≡ front style c cs → 0 < len → len ≤ length (c ∷ cs)
-    → cut style line at 0 (c ∷ cs) ≡ onto (piece_at kind at len line ∷ []) (cut style (line + breaks (take len (c ∷ cs))) (at + len) 0 (drop len (c ∷ cs)))
-unfolding cut
-cut_found style line at c cs kind zero e pos fits = absurd (omega arith)
-cut_found style line at c cs kind (suc n) e pos fits =
-    cut_front style line at c cs (Found kind (suc n)) e ∙ ap (onto (piece_at kind at (suc n) line ∷ [])) (skipped style line at (suc n) (c ∷ cs) fits)
+  module _ (before : List Piece) (line first at c : ℕ) (cs : List ℕ) where
+    -- what is cut from the byte c on, by what begins there
+    pub cut_front : (f : Front) → f ≡ front style (in_braces bytes before) (has_begun first before) c cs
+        → cut style bytes before line first at 0 (c ∷ cs) ≡ put style f c before line first at (λ past now skip. cut style bytes past (line_after c line) now (at + 1) skip cs)
+    unfolding cut
+    cut_front f e = rw e refl
 
--- the same of a comment, which is no piece
-pub cut_passed : (style : Style) (line at c : ℕ) (cs : List ℕ) (len : ℕ) → Passed len ≡ front style c cs → 0 < len → len ≤ length (c ∷ cs)
-    → cut style line at 0 (c ∷ cs) ≡ cut style (line + breaks (take len (c ∷ cs))) (at + len) 0 (drop len (c ∷ cs))
-unfolding cut
-cut_passed style line at c cs zero e pos fits = absurd (omega arith)
-cut_passed style line at c cs (suc n) e pos fits = cut_front style line at c cs (Passed (suc n)) e ∙ skipped style line at (suc n) (c ∷ cs) fits
+    -- a piece, and what is cut from its end on
+    pub cut_found : (kind : Kind) (len : ℕ) → Found kind len ≡ front style (in_braces bytes before) (has_begun first before) c cs → 0 < len → len ≤ length (c ∷ cs)
+        → cut style bytes before line first at 0 (c ∷ cs) ≡ onto (piece_at kind at len (line_of style line first) ∷ []) (cut style bytes (piece_at kind at len (line_of style line first) ∷ before) (line + breaks (take len (c ∷ cs))) first (at + len) 0 (drop len (c ∷ cs)))
+    unfolding cut
+    cut_found kind zero e pos fits = absurd (omega arith)
+    cut_found kind (suc n) e pos fits =
+        let p : Piece = piece_at kind at (suc n) (line_of style line first) in
+        cut_front (Found kind (suc n)) e ∙ ap (onto (p ∷ [])) (skipped (p ∷ before) line first at (suc n) (c ∷ cs) fits)
 
-module _ (style : Style) (bs : List ℕ) (at line : ℕ) (found : List Piece) (lt : at < length bs) (so_far : onto found (cut style line at 0 (drop at bs)) ≡ pieces style bs) where
-  abbrev byte : ℕ
-  byte = get_or bs at 0
+    -- the same of a comment, which is no piece
+    pub cut_passed : (len : ℕ) → Passed len ≡ front style (in_braces bytes before) (has_begun first before) c cs → 0 < len → len ≤ length (c ∷ cs)
+        → cut style bytes before line first at 0 (c ∷ cs) ≡ cut style bytes before (line + breaks (take len (c ∷ cs))) first (at + len) 0 (drop len (c ∷ cs))
+    unfolding cut
+    cut_passed zero e pos fits = absurd (omega arith)
+    cut_passed (suc n) e pos fits = cut_front (Passed (suc n)) e ∙ skipped before line first at (suc n) (c ∷ cs) fits
 
-  abbrev rest : List ℕ
-  rest = take (length bs - (at + 1)) (drop (at + 1) bs)
+-- at the place begins f
+pub record Begins (style : Style) (bytes : List ℕ) (here : Place) (f : Front) : Type 0 where
+  pub first : ℕ
+  pub rest : List ℕ
+  pub split : drop here.at bytes ≡ first ∷ rest
+  pub size : length bytes ≡ here.at + suc (length rest)
+  pub front_is : front style here.braced (here.latest == here.first) first rest ≡ f
 
-  split : drop at bs ≡ byte ∷ rest
-  split = drop_more bs at 0 lt ∙ ap (λ r. byte ∷ r) (sym (take_rest bs (at + 1)))
+-- the piece that begins at the place
+abbrev pub piece_here : Style → Place → Kind → (len : ℕ) → Piece
+piece_here style here kind len = piece_at kind here.at len (line_of style here.line here.first)
 
-  pub passes : Gap ≡ front style byte rest → onto found (cut style (line_after byte line) (at + 1) 0 (drop (at + 1) bs)) ≡ pieces style bs
-  passes e =
-      let step : cut style line at 0 (byte ∷ rest) ≡ cut style (line_after byte line) (at + 1) 0 rest = cut_front style line at byte rest Gap e in
-      let whole : rest ≡ drop (at + 1) bs = take_rest bs (at + 1) in
-      cc (split, so_far, step, whole)
+part : (at len : ℕ) → at + len - at ≡ len
+part at len = omega arith
 
-  pub finds : (kind : Kind) (len : ℕ) → Found kind len ≡ front style byte rest → 0 < len → at + len ≤ length bs
-      → onto (found ++ piece_at kind at len line ∷ []) (cut style (line + breaks (take len (drop at bs))) (at + len) 0 (drop (at + len) bs)) ≡ pieces style bs
-  finds kind len e pos fits =
-      let p : Piece = piece_at kind at len line in
-      let size : length (byte ∷ rest) ≡ length bs - at = sym (ap length split) ∙ length-drop at bs in
-      let step : cut style line at 0 (byte ∷ rest) ≡ onto (p ∷ []) (cut style (line + breaks (take len (byte ∷ rest))) (at + len) 0 (drop len (byte ∷ rest))) =
-      cut_found style line at byte rest kind len e pos (omega arith) in
-      let step' : cut style line at 0 (drop at bs) ≡ onto (p ∷ []) (cut style (line + breaks (take len (drop at bs))) (at + len) 0 (drop len (drop at bs))) =
-      rw split step in
-      let later : cut style (line + breaks (take len (drop at bs))) (at + len) 0 (drop len (drop at bs)) ≡ cut style (line + breaks (take len (drop at bs))) (at + len) 0 (drop (at + len) bs) =
-      ap (λ r. cut style (line + breaks (take len (drop at bs))) (at + len) 0 r) (drop-drop len at bs) in
-      onto-append found (p ∷ []) (cut style (line + breaks (take len (drop at bs))) (at + len) 0 (drop (at + len) bs)) ∙ cc (so_far, step', later)
+module _ (style : Style) (bytes : List ℕ) (here : Place) (lt : here.at < length bytes) where
+  abbrev pub byte : ℕ
+  byte = get_or bytes here.at 0
+
+  abbrev pub rest : List ℕ
+  rest = take (length bytes - (here.at + 1)) (drop (here.at + 1) bytes)
+
+  -- what begins at the place
+  abbrev pub BeginsHere : Front → Type 0
+  BeginsHere f = f ≡ front style here.braced (here.latest == here.first) byte rest
+
+  pub split : drop here.at bytes ≡ byte ∷ rest
+  split = drop_more bytes here.at 0 lt ∙ ap (λ r. byte ∷ r) (sym (take_rest bytes (here.at + 1)))
+
+  pub size : length (byte ∷ rest) ≡ length bytes - here.at
+  size = sym (ap length split) ∙ length-drop here.at bytes
+
+  abbrev pub begins : (f : Front) → BeginsHere f → Begins style bytes here f
+  begins f e = record { first = byte; rest = rest; split = split; size = omega (arith, size); front_is = sym e }
 
   -- a word or a mark that begins at the place stands on one line
-  pub on_one_line : (kind : Kind) (len : ℕ) → Found kind len ≡ front style byte rest → IsOneLine kind (take (at + len - at) (drop at bs))
-  on_one_line kind len e =
-      let size : at + len - at ≡ len = omega arith in
-      rw (size, split) (one_line style byte rest kind len e)
+  pub on_one_line : (kind : Kind) (len : ℕ) → BeginsHere (Found kind len) → IsOneLine kind (take (here.at + len - here.at) (drop here.at bytes))
+  on_one_line kind len e = rw (part here.at len, split) (one_line style here.braced (here.latest == here.first) byte rest kind len e)
 
-  pub goes_past : (len : ℕ) → Passed len ≡ front style byte rest → 0 < len → at + len ≤ length bs
-      → onto found (cut style (line + breaks (take len (drop at bs))) (at + len) 0 (drop (at + len) bs)) ≡ pieces style bs
-  goes_past len e pos fits =
-      let size : length (byte ∷ rest) ≡ length bs - at = sym (ap length split) ∙ length-drop at bs in
-      let step : cut style line at 0 (byte ∷ rest) ≡ cut style (line + breaks (take len (byte ∷ rest))) (at + len) 0 (drop len (byte ∷ rest)) =
-      cut_passed style line at byte rest len e pos (omega arith) in
-      let step' : cut style line at 0 (drop at bs) ≡ cut style (line + breaks (take len (drop at bs))) (at + len) 0 (drop len (drop at bs)) =
-      rw split step in
-      let later : cut style (line + breaks (take len (drop at bs))) (at + len) 0 (drop len (drop at bs)) ≡ cut style (line + breaks (take len (drop at bs))) (at + len) 0 (drop (at + len) bs) =
-      ap (λ r. cut style (line + breaks (take len (drop at bs))) (at + len) 0 r) (drop-drop len at bs) in
-      cc (so_far, step', later)
+  module _ (before : List Piece) (agrees : Agrees bytes before here) where
+    begins_so : (f : Front) → BeginsHere f → f ≡ front style (in_braces bytes before) (has_begun here.first before) byte rest
+    begins_so f e =
+        let braced : here.braced ≡ in_braces bytes before = agrees.braced in
+        let latest : here.latest ≡ latest_line before = agrees.latest in
+        e ∙ cc (braced, latest)
 
-  -- where what begins is a fault, it is the text's
-  pub stops : (f : Front) (e : TextErr) → f ≡ front style byte rest → ((go : ℕ → Result (List Piece) TextErr) → put f line at go ≡ Err e) → pieces style bs ≡ Err e
-  stops f e is fault =
-      let step : cut style line at 0 (byte ∷ rest) ≡ Err e = cut_front style line at byte rest f is ∙ fault _ in
-      sym so_far ∙ ap (λ r. onto found (cut style line at 0 r)) split ∙ ap (onto found) step
+    pub passes : BeginsHere Gap → left style bytes before here ≡ left style bytes before (past_white byte here)
+    passes e =
+        let step : cut style bytes before here.line here.first here.at 0 (byte ∷ rest) ≡ cut style bytes before (line_after byte here.line) (first_after byte here.line here.first) (here.at + 1) 0 rest =
+        cut_front style bytes before here.line here.first here.at byte rest Gap (begins_so Gap e) in
+        let whole : rest ≡ drop (here.at + 1) bytes = take_rest bytes (here.at + 1) in
+        cc (split, step, whole)
 
-pub ends : (style : Style) (bs : List ℕ) (at line : ℕ) (found : List Piece) → length bs ≤ at → onto found (cut style line at 0 (drop at bs)) ≡ pieces style bs → pieces style bs ≡ Ok found
+    pub finds : (kind : Kind) (len : ℕ) → BeginsHere (Found kind len) → 0 < len → here.at + len ≤ length bytes
+        → left style bytes before here ≡ onto (piece_here style here kind len ∷ []) (left style bytes (piece_here style here kind len ∷ before) (past_piece bytes (piece_here style here kind len) here))
+    finds kind len e pos fits =
+        let p : Piece = piece_here style here kind len in
+        let step : cut style bytes before here.line here.first here.at 0 (byte ∷ rest) ≡ onto (p ∷ []) (cut style bytes (p ∷ before) (here.line + breaks (take len (byte ∷ rest))) here.first (here.at + len) 0 (drop len (byte ∷ rest))) =
+        cut_found style bytes before here.line here.first here.at byte rest kind len (begins_so (Found kind len) e) pos (omega (arith, size)) in
+        let step' : left style bytes before here ≡ onto (p ∷ []) (cut style bytes (p ∷ before) (here.line + breaks (take len (drop here.at bytes))) here.first (here.at + len) 0 (drop len (drop here.at bytes))) =
+        rw split step in
+        rw (part here.at len) (rw (drop-drop len here.at bytes) at step')
+
+    pub goes_past : (len : ℕ) → BeginsHere (Passed len) → 0 < len → here.at + len ≤ length bytes
+        → left style bytes before here ≡ left style bytes before (past_comment bytes (here.at + len) here)
+    goes_past len e pos fits =
+        let step : cut style bytes before here.line here.first here.at 0 (byte ∷ rest) ≡ cut style bytes before (here.line + breaks (take len (byte ∷ rest))) here.first (here.at + len) 0 (drop len (byte ∷ rest)) =
+        cut_passed style bytes before here.line here.first here.at byte rest len (begins_so (Passed len) e) pos (omega (arith, size)) in
+        let step' : left style bytes before here ≡ cut style bytes before (here.line + breaks (take len (drop here.at bytes))) here.first (here.at + len) 0 (drop len (drop here.at bytes)) =
+        rw split step in
+        rw (part here.at len) (rw (drop-drop len here.at bytes) at step')
+
+    -- where what begins is a fault, it is the fault of what is left
+    pub stops : (f : Front) (e : TextErr) → BeginsHere f → ((go : List Piece → ℕ → ℕ → Result (List Piece) TextErr) → put style f byte before here.line here.first here.at go ≡ Err e) → left style bytes before here ≡ Err e
+    stops f e is fault =
+        let step : cut style bytes before here.line here.first here.at 0 (byte ∷ rest) ≡ Err e = cut_front style bytes before here.line here.first here.at byte rest f (begins_so f is) ∙ fault _ in
+        rw split step
+
+-- the end of the text
+pub ends : (style : Style) (bytes : List ℕ) (before : List Piece) (here : Place) → length bytes ≤ here.at → left style bytes before here ≡ Ok []
 unfolding cut
-ends style bs at line found le so_far =
-    sym so_far ∙ ap (λ r. onto found (cut style line at 0 r)) (drop_all at bs le) ∙ ap Ok (append-nil found)
+ends style bytes before here le = rw (drop_all here.at bytes le) refl
+
+-- what a place keeps stays so past white, comments and pieces
+pub agrees_white : (bytes : List ℕ) (c : ℕ) (before : List Piece) (here : Place) → Agrees bytes before here → Agrees bytes before (past_white c here)
+agrees_white bytes c before here a = record { braced = a.braced; latest = a.latest }
+
+pub agrees_comment : (bytes : List ℕ) (to : ℕ) (before : List Piece) (here : Place) → Agrees bytes before here → Agrees bytes before (past_comment bytes to here)
+agrees_comment bytes to before here a = record { braced = a.braced; latest = a.latest }
+
+pub agrees_piece : (bytes : List ℕ) (p : Piece) (before : List Piece) (here : Place) → Agrees bytes before here → Agrees bytes (p ∷ before) (past_piece bytes p here)
+agrees_piece bytes p before here a = record { braced = ap (brace_by p.kind (slice_index bytes p.from)) a.braced; latest = refl }
+
+-- a place past white, a comment or a piece lies in the text, on one of its lines
+next_line : (b : Bool) (line at : ℕ) → line ≤ at + 1 → cond b (line + 1) line ≤ at + 1 + 1
+next_line true line at le = omega arith
+next_line false line at le = omega arith
+
+next_command : (b : Bool) (line first : ℕ) → first ≤ line → cond b (line + 1) first ≤ cond b (line + 1) line
+next_command true line first le = omega arith
+next_command false line first le = le
+
+pub place_white : (c : ℕ) (bytes : List ℕ) (here : Place) → IsPlace bytes here → here.at < length bytes → IsPlace bytes (past_white c here)
+place_white c bytes here i lt = record {
+  within = omega arith;
+  lines = next_line (c == 10) here.line here.at i.lines;
+  command = next_command (c == 10) here.line here.first i.command;
+}
+
+few_breaks : (n : ℕ) (bs : List ℕ) → breaks (take n bs) ≤ n
+few_breaks n bs = omega (arith, count_by-le-length (λ c. c == 10) (take n bs), length-take n bs)
+
+pub place_comment : (to : ℕ) (bytes : List ℕ) (here : Place) → IsPlace bytes here → here.at ≤ to → to ≤ length bytes → IsPlace bytes (past_comment bytes to here)
+place_comment to bytes here i more within = record {
+  within = within;
+  lines = omega (arith, i.lines, few_breaks (to - here.at) (drop here.at bytes));
+  command = omega (arith, i.command);
+}
+
+pub place_piece : (p : Piece) (bytes : List ℕ) (here : Place) → IsPlace bytes here → here.at ≡ p.from → LiesIn (length bytes) p → IsPlace bytes (past_piece bytes p here)
+place_piece p bytes here i at l = record {
+  within = l.within;
+  lines = omega (arith, i.lines, few_breaks (p.to - p.from) (drop p.from bytes), l.some);
+  command = omega (arith, i.command);
+}
 
 -- how long the rest of a text is, and a part of it
 pub length-rest : (bs : List ℕ) (i : ℕ) → length (take (length bs - i) (drop i bs)) ≡ length bs - i
 length-rest bs i = ap length (take_rest bs i) ∙ length-drop i bs
 
-pub breaks_within : (bs : List ℕ) (at len n : ℕ) → n ≤ length (take (at + len - at) (drop at bs)) → n ≤ len
-breaks_within bs at len n h = omega (arith, length-take (at + len - at) (drop at bs))
-
-pub part : (at len : ℕ) → at + len - at ≡ len
-part at len = omega arith
+pub length-part : (bs : List ℕ) (from to : ℕ) → length (take (to - from) (drop from bs)) ≤ to - from
+length-part bs from to = omega (arith, length-take (to - from) (drop from bs))

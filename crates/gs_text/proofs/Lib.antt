@@ -1,6 +1,14 @@
 pub mod CutLaws
 pub mod Follow
 pub mod FrontLaws
+pub mod LibertyLaws
+pub mod PieceByPiece
+pub mod Says
+pub mod SdcLaws
+pub mod SpefLaws
 pub mod Until
-pub mod Styles
-pub mod Causes
+pub mod VerilogLaws
+pub mod Walk
+pub mod Shape
+pub mod Faulty
+pub mod LineLaws

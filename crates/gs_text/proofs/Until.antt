@@ -1,6 +1,7 @@
 -- Counting up to the first byte at which a test of the byte and the next one holds.
-use Rattle.std.proofs.Common.{◌≡◌, refl, ℕ, zero, suc, ◌+◌, ◌<◌, ◌≤◌, Bool, true, false, cond, get_or, slice_index, List, [], ◌∷◌, length, add-one, arith}
-use Rattle.gs_text.specs.Front.{until}
+use Rattle.std.proofs.Common.{◌≡◌, refl, ℕ, zero, suc, ◌+◌, ◌<◌, ◌≤◌, Bool, true, false, cond, get_or, slice_index, inl, inr, ◌⊎◌, List, [], ◌∷◌, length, add-one, arith}
+use Rattle.std.proofs.lemmas.Bool.{cases_lt}
+use Rattle.gs_text.specs.Runs.{until}
 
 at_most_more : (b : Bool) (m n : ℕ) → m ≤ n → cond b 0 (m + 1) ≤ suc n
 at_most_more true m n le = omega arith
@@ -38,3 +39,28 @@ module _ (test : ℕ → ℕ → Bool) where
   pub until-at : (bs : List ℕ) → until test bs < length bs → test (get_or bs (until test bs) 0) (get_or bs (until test bs + 1) 0) ≡ true
   until-at [] lt = absurd (omega arith)
   until-at (c ∷ cs) lt = at_of (test c (slice_index cs 0)) c (until test cs) cs refl lt (until-at cs)
+
+  -- a run that is one byte longer, since its first byte isn't tested, ends at the text's end or where the test holds
+  pub run-ends : (c : ℕ) (cs : List ℕ) → (until test cs + 1 ≡ length (c ∷ cs)) ⊎ (test (slice_index (c ∷ cs) (until test cs + 1)) (slice_index (c ∷ cs) (until test cs + 1 + 1)) ≡ true)
+  run-ends c cs = elim (cases_lt (until test cs) (length cs)) [
+    | inl lt ↦
+        let here : test (get_or cs (until test cs) 0) (get_or cs (until test cs + 1) 0) ≡ true = until-at cs lt in
+        inr (simp add-one (simp add-one at here))
+    | inr le ↦ let most : until test cs ≤ length cs = until-le-length cs in inl (omega arith)
+  ]
+
+  pub run-before : (c : ℕ) (cs : List ℕ) (k : ℕ) → 0 < k → k < until test cs + 1 → test (slice_index (c ∷ cs) k) (slice_index (c ∷ cs) (k + 1)) ≡ false
+  run-before c cs zero some lt = absurd (omega arith)
+  run-before c cs (suc k) some lt =
+      let here : test (get_or cs k 0) (get_or cs (k + 1) 0) ≡ false = until-before cs k (omega arith) in
+      simp add-one (simp add-one at here)
+
+  -- where the test holds nowhere, the run is all
+  pub until-all : (bs : List ℕ) → ((k : ℕ) → k < length bs → test (get_or bs k 0) (get_or bs (k + 1) 0) ≡ false) → until test bs ≡ length bs
+  until-all bs none = elim (cases_lt (until test bs) (length bs)) [
+    | inl lt ↦ absurd (both (until-at bs lt) (none (until test bs) lt))
+    | inr le ↦ let most : until test bs ≤ length bs = until-le-length bs in omega arith
+  ]
+    where
+      both : {b : Bool} → b ≡ true → b ≡ false → ⊥
+      both t f = cc (t, f)

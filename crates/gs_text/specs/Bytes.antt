@@ -1,6 +1,10 @@
 -- The classes of bytes. White is the same in all formats; words of Verilog are made of the bytes of IEEE 1364-2005's
 -- simple identifiers.
-use Rattle.std.specs.Prelude.{ℕ, Bool, ◌==◌, ◌||◌, ◌&&◌, nat_le}
+use Rattle.std.specs.Prelude.{ℕ, Bool, ◌==◌, ◌||◌, ◌&&◌, ◌^◌, nat_le}
+
+-- how many bytes a text may have, 256 MiB
+abbrev pub max_text : ℕ
+max_text = 2 ^ 28
 
 -- space, tab, carriage return, form feed and newline
 abbrev pub is_white : ℕ → Bool
@@ -17,3 +21,7 @@ is_word_byte c =
 -- parentheses, braces, comma, semicolon and colon
 abbrev pub is_liberty_mark : ℕ → Bool
 is_liberty_mark c = c == 40 || c == 41 || c == 123 || c == 125 || c == 44 || c == 59 || c == 58
+
+-- brackets and braces
+abbrev pub is_sdc_mark : ℕ → Bool
+is_sdc_mark c = c == 91 || c == 93 || c == 123 || c == 125

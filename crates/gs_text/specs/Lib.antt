@@ -1,5 +1,17 @@
+pub mod Before
 pub mod Bytes
+pub mod Comments
 pub mod Cut
+pub mod Cutter
 pub mod Faults
 pub mod Front
+pub mod Gaps
+pub mod Liberty
+pub mod Lines
 pub mod Pieces
+pub mod Runs
+pub mod Sdc
+pub mod Skips
+pub mod Spef
+pub mod Verilog
+pub mod Whole

@@ -47,9 +47,9 @@ abbrev pub InOrder : (at : ℕ) → List Piece → Type 0
 InOrder at [] = Unit {0}
 InOrder at (p ∷ ps) = (at ≤ p.from) × InOrder p.to ps
 
--- a word or a mark has no newline
+-- no piece but a string has a newline
 abbrev pub IsOneLine : Kind → List ℕ → Type 0
 IsOneLine Word bytes = count_by (λ c. c == 10) bytes ≡ 0
-IsOneLine Escaped bytes = Unit {0}
+IsOneLine Escaped bytes = count_by (λ c. c == 10) bytes ≡ 0
 IsOneLine Text bytes = Unit {0}
 IsOneLine Mark bytes = count_by (λ c. c == 10) bytes ≡ 0

@@ -1,7 +1,7 @@
 //! Names, and lists of names.
 #![tactic(auto)]
 
-ghost use Rattle.std.specs.Prelude.{◌≡◌, [], IfOk, length};
+ghost use Rattle.std.specs.Prelude.{◌≡◌, ◌<◌, [], MatchResult, length};
 ghost use Rattle.std.proofs.Common.{rules};
 ghost use Rattle.std.proofs.lemmas.Cmp.{nat_list_cmp_total, nat_list_eq_equiv};
 ghost use Rattle.std.specs.Cmp.{partial_equiv_from_equiv, partial_order_from_own_ties};
@@ -10,6 +10,7 @@ ghost use Rattle.std.specs.Cmp.Rules.{comparing};
 ghost use Rattle.std.specs.Ordering.{as_partial_cmp, nat_cmp};
 ghost use Rattle.std.specs.Str.{bytes_eq};
 
+use gs_list::Rows;
 use smallvec::SmallVec;
 use std::alloc::{AllocError, Global};
 use std::cmp::Ordering;
@@ -42,9 +43,9 @@ impl Name {
         }
     }
 
-    /// A name with these bytes.
+    /// A name with these bytes. At most 16 bytes need no memory, and so make a name without fail.
     pub fn copy_of(alloc: Global, text: &[u8]) -> Result<Name, AllocError>
-        ensures { IfOk result (λ n. n ≡ text.now) }
+        ensures { MatchResult result (λ n. n ≡ text.now) (λ _. 16 < length text.now) }
     {
         let bytes = SmallVec::from_slice(alloc, text)?;
         Ok(Name { bytes })
@@ -105,58 +106,7 @@ impl Ord for Name {
 }
 
 /// A list of names, which owns them. Contracts see a list of lists of bytes.
-#[derive(Debug, Drop)]
-pub struct Names {
-    list: Vec<Name>,
-}
-
-impl Model for Names {
-    ghost use Rattle.std.specs.Prelude.{List, ℕ};
-
-    ghost Value = { List (List ℕ) };
-
-    ghost view = { λ n. n.list.items };
-}
-
-impl Names {
-    /// The list without a name. It takes no memory.
-    pub fn empty(alloc: Global) -> Names
-        ensures { result ≡ [] }
-    {
-        Names {
-            list: Vec::new(alloc),
-        }
-    }
-
-    /// These names. It takes no memory.
-    pub fn from_vec(list: Vec<Name>) -> Names
-        ensures { result ≡ list.items }
-    {
-        Names { list }
-    }
-
-    /// The names as a `Vec`. It takes no memory.
-    pub fn into_vec(self) -> Vec<Name>
-        ensures { result.items ≡ self }
-    {
-        let Names { list } = self;
-        list
-    }
-
-    /// The names, in order.
-    pub fn as_slice(&self) -> &[Name]
-        ensures { result.now ≡ self.now }
-    {
-        self.list.as_slice()
-    }
-
-    /// How many names there are.
-    pub fn len(&self) -> usize
-        ensures { result ≡ length self.now }
-    {
-        self.list.len()
-    }
-}
+pub type Names = Rows<Name>;
 
 #[cfg(test)]
 mod tests {

@@ -3,6 +3,9 @@
 
 use std::alloc::AllocFailed;
 
+/// How many bytes a text may have, 256 MiB; contracts call it `max_text`.
+pub const MAX_TEXT: usize = 1 << 28;
+
 /// The format whose rules say what the pieces of a text are.
 #[derive(Clone, Copy, Debug, PartialEq, Eq)]
 pub enum Style {
@@ -10,6 +13,10 @@ pub enum Style {
     Verilog,
     /// Liberty, after the Liberty reference manual.
     Lib,
+    /// SPEF, after IEEE 1481-1999.
+    Spef,
+    /// Constraints in the SDC format.
+    Sdc,
 }
 
 /// What a piece is.
@@ -31,15 +38,13 @@ pub struct Piece {
     pub kind: Kind,
     pub from: u32,
     pub to: u32,
-    /// The line on which the piece begins.
+    /// The line on which the piece begins; in style Sdc the first line of its command.
     pub line: u32,
 }
 
 /// Why a text isn't cut.
 #[derive(Debug, PartialEq, Eq, Drop)]
 pub enum TextErr {
-    /// Byte `at` begins a comment or an escaped name, which aren't built yet.
-    NotBuilt { at: u32 },
     /// The string that begins with the quote at byte `at` has no end.
     OpenString { at: u32 },
     /// The comment that begins at byte `at` has no end.

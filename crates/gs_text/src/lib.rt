@@ -4,24 +4,36 @@
 //! marks), and a reader goes over the pieces. This crate does the first step for all formats, and has the type of the
 //! names that readers keep.
 //!
-//! - `pieces` cuts a text in one style. Its answer equals the definition in `specs/Cut.antt`: the list of pieces, or the
-//!   fault of the first byte that can't be cut. Each piece lies in the text, and the pieces stand in the text's order.
+//! - `next_piece` gives the pieces of a text one at a time, each with the `Place` past it, and takes no memory. `fault_from`
+//!   says whether what is left of a text has a fault.
+//! - `pieces` gives them all. They are the definition's (`specs/Cut.antt`), and beside that its contract says in the words of
+//!   the format that only white, comments and continued line ends stand between the pieces, that no word could be longer,
+//!   which line each piece has, and that a fault is answered exactly where a string or a comment opens and has no end.
 //! - `text_of` is what a piece stands for: its bytes without quotes or leading backslash.
 //! - `Name` is a list of bytes that owns its memory, and `Names` a list of these.
 //!
-//! Cutting is one pass over the bytes and takes memory for the pieces alone, 16 bytes each.
+//! Cutting is one pass over the bytes; `pieces` takes memory for the pieces alone, 16 bytes each.
 //!
-//! To add a style or a kind of piece, change what begins at a byte: `front` in `specs/Front.antt`, and a file
-//! of the style beside `src/verilog.rt`. The loop and its proof speak of no style.
+//! To change a style, change what begins at a byte, in its file in `src` and in `specs` (`src/sdc.rt`, `specs/Sdc.antt`), and the
+//! laws beside it (`proofs/SdcLaws.antt`). A new style is one more such file, a variant of `Style`, and a line in each
+//! definition that speaks of styles: `front`, `line_of`, `EndsWord`, `IsSkipped`, `HasLine`, `HasFault` and `ComesIn`. The loop
+//! and the induction over it speak of no style.
 #![tactic(auto)]
 
+mod cutter;
 mod identifier;
 mod kinds;
 mod lexer;
 mod liberty;
+mod runs;
 mod scan;
+mod sdc;
+mod spef;
+#[cfg(test)]
+mod tests;
 mod verilog;
 
+pub use cutter::{Next, Place, fault_from, next_piece};
 pub use identifier::{Name, Names};
-pub use kinds::{Kind, Piece, Style, TextErr};
+pub use kinds::{Kind, MAX_TEXT, Piece, Style, TextErr};
 pub use lexer::{pieces, text_of};

@@ -3,19 +3,18 @@
 
 ghost use Rattle.std.specs.Prelude.{◌≡◌, slice_index};
 ghost use Rattle.gs_text.specs.Bytes.{is_white};
+ghost use Rattle.gs_text.specs.Runs.{continues, opens_comment, opens_line_comment};
 
 use crate::kinds::Kind;
 
 /// What begins at a byte that no piece has taken yet.
 pub enum Front {
-    /// White, which belongs to no piece.
+    /// A byte of white, which belongs to no piece.
     Gap,
     /// A piece of so many bytes.
     Found(Kind, usize),
-    /// A comment of so many bytes.
+    /// A comment or a continued line end, of so many bytes.
     Passed(usize),
-    /// A comment or an escaped name, in a style in which these aren't built.
-    NotBuilt,
     /// A string without an end.
     OpenString,
     /// A comment without an end.
@@ -34,4 +33,25 @@ pub fn byte_at(bytes: &[u8], i: usize) -> u8
     ensures { result ≡ slice_index bytes.now i }
 {
     if i < bytes.len() { bytes[i] } else { 0 }
+}
+
+/// Whether a line goes on over its end, which a backslash directly before it says.
+pub fn continues(byte: u8, next: u8) -> bool
+    ensures { result ≡ continues byte next }
+{
+    byte == b'\\' && next == b'\n'
+}
+
+/// Whether a comment begins that ends with a star and a slash.
+pub fn opens_comment(byte: u8, next: u8) -> bool
+    ensures { result ≡ opens_comment byte next }
+{
+    byte == b'/' && next == b'*'
+}
+
+/// Whether a comment begins that ends with its line.
+pub fn opens_line_comment(byte: u8, next: u8) -> bool
+    ensures { result ≡ opens_line_comment byte next }
+{
+    byte == b'/' && next == b'/'
 }

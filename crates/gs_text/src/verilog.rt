@@ -1,14 +1,15 @@
 //! What begins at a byte of a Verilog text, after the lexical rules of IEEE 1364-2005.
 #![tactic(auto)]
 
-ghost use Rattle.std.specs.Prelude.{◌≡◌, ◌+◌, ◌≤◌, length};
+ghost use Rattle.std.specs.Prelude.{◌≡◌, ◌+◌, ◌≤◌, false, length};
 ghost use Rattle.std.specs.List.{prefix_len};
-ghost use Rattle.gs_text.specs.Bytes.{is_digit, is_word_byte};
-ghost use Rattle.gs_text.specs.Front.{FitsIn, begins_unbuilt, closed_len, front, index_len, word_len};
-ghost use Rattle.gs_text.specs.declared.kinds.Style.{Style};
+ghost use Rattle.gs_text.specs.Bytes.{is_digit, is_white, is_word_byte};
+ghost use Rattle.gs_text.specs.Front.{FitsIn};
+ghost use Rattle.gs_text.specs.Verilog.{closed_len, escaped_front, index_len, verilog_front, word_len};
 
 use crate::kinds::Kind;
-use crate::scan::{Front, byte_at, is_white};
+use crate::runs::{Blank, comment_front, line_front, until};
+use crate::scan::{Front, byte_at, is_white, opens_comment, opens_line_comment};
 
 fn is_digit(byte: u8) -> bool
     ensures { result ≡ is_digit byte }
@@ -82,25 +83,48 @@ fn word_len(rest: &[u8]) -> usize
     run + index_len(&rest[run..])
 }
 
-/// Whether a comment or an escaped name begins with `byte` before `rest`.
-fn begins_unbuilt(byte: u8, rest: &[u8]) -> bool
-    ensures { result ≡ begins_unbuilt byte rest.now }
+/// The escaped name whose backslash stands before `rest`. It ends before white, and a backslash alone is a mark.
+fn escaped_front(rest: &[u8]) -> Front
+    ensures value { result ≡ escaped_front rest.now }
+    ensures fits { FitsIn (length rest.now + 1) result }
 {
-    byte == b'\\' || byte == b'/' && (byte_at(rest, 0) == b'/' || byte_at(rest, 0) == b'*')
+    let len = until::<Blank>(rest);
+    if len > 0 {
+        Front::Found(Kind::Escaped, len + 1)
+    } else {
+        Front::Found(Kind::Mark, 1)
+    }
+}
+
+/// What begins with `byte`, which is no white and in no word, before `rest`.
+fn begins_apart(byte: u8, rest: &[u8]) -> Front
+    requires white { is_white byte ≡ false }
+    requires word { is_word_byte byte ≡ false }
+    ensures value { result ≡ verilog_front byte rest.now }
+    ensures fits { FitsIn (length rest.now + 1) result }
+{
+    let next = byte_at(rest, 0);
+    if opens_line_comment(byte, next) {
+        line_front(rest)
+    } else if opens_comment(byte, next) {
+        comment_front(&rest[1..])
+    } else if byte == b'\\' {
+        escaped_front(rest)
+    } else {
+        Front::Found(Kind::Mark, 1)
+    }
 }
 
 /// What begins with `byte` before `rest` in a Verilog text.
 pub fn begins_verilog(byte: u8, rest: &[u8]) -> Front
-    ensures value { result ≡ front Style.Verilog byte rest.now }
+    ensures value { result ≡ verilog_front byte rest.now }
     ensures fits { FitsIn (length rest.now + 1) result }
 {
     if is_white(byte) {
         Front::Gap
     } else if is_word_byte(byte) {
         Front::Found(Kind::Word, word_len(rest) + 1)
-    } else if begins_unbuilt(byte, rest) {
-        Front::NotBuilt
     } else {
-        Front::Found(Kind::Mark, 1)
+        begins_apart(byte, rest)
     }
 }

@@ -1,43 +1,76 @@
 -- The form of a command's words, and the job that they make.
-use Rattle.std.specs.Prelude.{ℕ, Bool, not, ◌&&◌, ◌==◌, List, [], ◌∷◌, Option, Some, None, length, codes, if◌then◌else◌}
+use Rattle.std.specs.Prelude.{◌≡◌, ℕ, ◌+◌, ◌*◌, Bool, true, false, not, ◌&&◌, ◌==◌, List, [], ◌∷◌, Option, Some, None, Result, Ok, Err, length, slice_index_or, codes, if◌then◌else◌}
+use Rattle.std.specs.List.{list_any}
 use Rattle.std.specs.Str.{bytes_eq}
+use Rattle.gs_top.specs.declared.job.Job.{Job}
+use Rattle.gs_top.specs.declared.job.Job.TheVariants.{Size}
+use Rattle.gs_top.specs.declared.job.SizeJob.{SizeJob}
+use Rattle.gs_top.specs.declared.read.WordsErr.{WordsErr}
+use Rattle.gs_top.specs.declared.read.WordsErr.TheVariants.{Usage, Mem}
+use Rattle.gs_top.specs.declared.status.Input.{Input}
+use Rattle.gs_top.specs.declared.status.Input.TheVariants.{Lib, Verilog}
+use Rattle.gs_top.specs.declared.status.Output.{Output}
+use Rattle.gs_top.specs.declared.status.Output.TheVariants.{Sizes, Report, Console}
 
--- the names of the files that `size` reads, and of those that it writes
-pub record Job : Type 0 where
-  pub lib : List ℕ
-  pub verilog : List ℕ
-  pub sizes : List ℕ
-  pub report : List ℕ
+-- the options of `size`, in the order in which its words give them
+abbrev pub size_options : List (List ℕ)
+size_options = codes "--lib" ∷ codes "--verilog" ∷ codes "--sizes" ∷ codes "--report" ∷ []
 
-abbrev pub is_named : List ℕ → Bool
-is_named f = not (length f == 0)
+-- the words are these options in this order, each followed by one value
+abbrev pub are_given : (options words : List (List ℕ)) → Bool
+are_given [] [] = true
+are_given (o ∷ os) (w ∷ value ∷ ws) = bytes_eq w o && are_given os ws
+are_given _ _ = false
 
-abbrev pub differ : List ℕ → List ℕ → Bool
-differ f g = not (bytes_eq f g)
+-- the value of option number k, counted from 0
+abbrev pub value_at : (words : List (List ℕ)) → ℕ → List ℕ
+value_at words k = slice_index_or words (2 * k + 1) []
 
--- no name is empty
-abbrev pub are_named : (lib verilog sizes report : List ℕ) → Bool
-are_named l v s r = is_named l && (is_named v && (is_named s && is_named r))
+abbrev pub size_with : List (List ℕ) → SizeJob
+size_with words = record {
+  lib = value_at words 0;
+  verilog = value_at words 1;
+  sizes = value_at words 2;
+  report = value_at words 3;
+}
 
--- no two names are the same
-abbrev pub all_differ : (lib verilog sizes report : List ℕ) → Bool
-all_differ l v s r = differ l v && (differ l s && (differ l r && (differ v s && (differ v r && differ s r))))
+-- no name is empty, and all differ
+abbrev pub are_names : List (List ℕ) → Bool
+are_names [] = true
+are_names (n ∷ ns) = not (length n == 0) && (not (list_any (bytes_eq n) ns) && are_names ns)
 
--- the words are these options, in their order
-abbrev pub are_options : (lib verilog sizes report : List ℕ) → Bool
-are_options lib verilog sizes report =
-    bytes_eq lib (codes "--lib") && (bytes_eq verilog (codes "--verilog") && (bytes_eq sizes (codes "--sizes") && bytes_eq report (codes "--report")))
+-- the names of a job's files
+abbrev pub names_of : Job → List (List ℕ)
+names_of (Size j) = j.lib ∷ j.verilog ∷ j.sizes ∷ j.report ∷ []
 
-abbrev pub job_with : (lib verilog sizes report : List ℕ) → Job
-job_with lib verilog sizes report = record { lib = lib; verilog = verilog; sizes = sizes; report = report }
+-- the condition of a job
+abbrev pub is_good : Job → Bool
+is_good job = are_names (names_of job)
 
--- the job of these names, where none is empty and all differ
-abbrev pub job_by : (lib verilog sizes report : List ℕ) → Option Job
-job_by l v s r = if are_named l v s r && all_differ l v s r then Some (job_with l v s r) else None
+-- the words after the command `size` make a job
+abbrev pub is_size : List (List ℕ) → Bool
+is_size words = are_given size_options words && is_good (Size (size_with words))
 
--- the job of the words `size --lib f --verilog g --sizes h --report i`; other words make none
+abbrev pub size_of : List (List ℕ) → Option Job
+size_of words = if is_size words then Some (Size (size_with words)) else None
+
+-- the job of a command's words, the command first; other words make none
 abbrev pub job_of : List (List ℕ) → Option Job
-job_of (command ∷ lib ∷ f ∷ verilog ∷ g ∷ sizes ∷ h ∷ report ∷ i ∷ []) =
-    if bytes_eq command (codes "size") && are_options lib verilog sizes report
-    then job_by f g h i else None
-job_of _ = None
+job_of [] = None
+job_of (command ∷ words) = if bytes_eq command (codes "size") then size_of words else None
+
+-- the name of a file that a job reads, and of one that it writes
+abbrev pub input_of : Job → Input → List ℕ
+input_of (Size j) Lib = j.lib
+input_of (Size j) Verilog = j.verilog
+
+abbrev pub output_of : Job → Output → List ℕ
+output_of (Size j) Sizes = j.sizes
+output_of (Size j) Report = j.report
+output_of (Size j) Console = []
+
+-- the answer of reading words that make this job, or none: the job or want of memory, or `Usage`
+abbrev pub IsRead : Option Job → Result Job WordsErr → Type 0
+IsRead o (Ok job) = o ≡ Some job
+IsRead o (Err Usage) = o ≡ None
+IsRead o (Err Mem) = (job : Job) × (o ≡ Some job)

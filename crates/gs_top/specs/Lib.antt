@@ -1,9 +1,15 @@
-pub mod Accepted
+pub mod Act
+pub mod Answer
+pub mod Command
 pub mod Design
 pub mod Exit
 pub mod Job
+pub mod Kind
+pub mod Law
 pub mod Line
+pub mod Plan
 pub mod Refusal
 pub mod Run
+pub mod Stage
+pub mod Store
 pub mod Texts
-pub mod Work

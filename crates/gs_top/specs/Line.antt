@@ -1,9 +1,12 @@
 -- The line that is said of each status.
-use Rattle.std.specs.Prelude.{◌≡◌, ℕ, ◌⊎◌, List, [], ◌++◌, codes, decimal}
+use Rattle.std.specs.Prelude.{◌≡◌, ◌≢◌, ℕ, List, [], ◌++◌, codes, decimal}
 use Rattle.gs_lib.specs.declared.error.LibErr.{LibErr}
 use Rattle.gs_lib.specs.declared.error.LibErr.TheVariants as lib
-use Rattle.gs_shelf.specs.Faults.{Rose}
-use Rattle.gs_shelf.specs.Files.{GrewByPart}
+use Rattle.gs_shelf.specs.Faults.{CountsStay, NoneFell, Rose}
+use Rattle.gs_shelf.specs.Files.{AllStay, GrewByPart}
+use Rattle.gs_shelf.specs.declared.calls.Op.TheVariants.{Say}
+use Rattle.gs_top.specs.Answer.{Seen}
+use Rattle.gs_top.specs.Kind.{Kind, Success, kind_of}
 use Rattle.gs_top.specs.declared.status.Input.{Input}
 use Rattle.gs_top.specs.declared.status.Input.TheVariants as input
 use Rattle.gs_top.specs.declared.status.LinkErr.{LinkErr}
@@ -11,7 +14,7 @@ use Rattle.gs_top.specs.declared.status.LinkErr.TheVariants as link
 use Rattle.gs_top.specs.declared.status.Output.{Output}
 use Rattle.gs_top.specs.declared.status.Output.TheVariants.{Sizes, Report, Console}
 use Rattle.gs_top.specs.declared.status.TextWhy.{TextWhy}
-use Rattle.gs_top.specs.declared.status.TextWhy.TheVariants.{NotBuilt, OpenString, OpenComment, TooDeep, BadPiece, TwoNames, NoEnd}
+use Rattle.gs_top.specs.declared.status.TextWhy.TheVariants.{OpenString, OpenComment, TooDeep, BadPiece, TwoNames, NoEnd}
 use Rattle.gs_top.specs.declared.status.Status.{Status}
 use Rattle.gs_top.specs.declared.status.Status.TheVariants.{Written, Usage, ReadFault, TooLarge, BadText, BadLibrary, BadDesign, WriteFault, OutOfMemory}
 
@@ -21,7 +24,6 @@ input_name input.Verilog = codes "netlist"
 
 -- each reason is its variant's name in lower case
 abbrev pub why_name : TextWhy → List ℕ
-why_name NotBuilt = codes "notbuilt"
 why_name OpenString = codes "openstring"
 why_name OpenComment = codes "opencomment"
 why_name TooDeep = codes "toodeep"
@@ -60,26 +62,23 @@ line_of (BadDesign e) = codes "bad design " ++ link_name e ++ codes "\n"
 line_of (WriteFault file) = write_line file
 line_of OutOfMemory = []
 
--- a status whose line could not be said for a fault of the console: a success is lost, a refusal stays
+-- a status whose line could not be said for a fault of the console: a success is lost, another status stays
+abbrev pub unsaid_by : Status → Kind → Status
+unsaid_by s Success = WriteFault Console
+unsaid_by s kind = s
+
 abbrev pub unsaid : Status → Status
-unsaid (Written instances) = WriteFault Console
-unsaid Usage = Usage
-unsaid (ReadFault file) = ReadFault file
-unsaid (TooLarge file) = TooLarge file
-unsaid (BadText file why place) = BadText file why place
-unsaid (BadLibrary e) = BadLibrary e
-unsaid (BadDesign e) = BadDesign e
-unsaid (WriteFault file) = WriteFault file
-unsaid OutOfMemory = OutOfMemory
+unsaid s = unsaid_by s (kind_of s)
 
--- a status was said, its saying failed, or memory ran out
-abbrev pub Ended : Status → (before now : ℕ) → Status → Type 0
-Ended status before now result =
-    (result ≡ status) ⊎ (((result ≡ unsaid status) × Rose before now) ⊎ (result ≡ OutOfMemory))
+-- How the saying of a status's line ended: all of it was said; the console failed, and a part of it was said; or memory ran out, and
+-- nothing was said. What was said is known where the shelf tells. An empty line is not said at all.
+pub data Ended (tells : Type 0) (s : Status) (old new : Seen) (r : Status) : Type 0 where
+  Whole : r ≡ s → CountsStay old.faults new.faults → (line_of s ≡ [] → new.said ≡ old.said) → (tells → new.said ≡ old.said ++ line_of s) → Ended tells s old new r
+  Failed : r ≡ unsaid s → line_of s ≢ [] → Rose (old.faults Say []) (new.faults Say []) → (tells → GrewByPart (line_of s) old.said new.said) → Ended tells s old new r
+  NoRoom : r ≡ OutOfMemory → CountsStay old.faults new.faults → new.said ≡ old.said → Ended tells s old new r
 
--- the same, with what was said: the whole line, or a part of it
-abbrev pub SaidAs : Status → (before now : ℕ) → (said saying : List ℕ) → Status → Type 0
-SaidAs status before now said saying result =
-    ((result ≡ status) × (saying ≡ said ++ line_of status))
-    ⊎ (((result ≡ unsaid status) × Rose before now × GrewByPart (line_of status) said saying)
-    ⊎ ((result ≡ OutOfMemory) × GrewByPart (line_of status) said saying))
+-- the saying of a status's line: no file changes
+pub record IsSaid (tells : Type 0) (s : Status) (old new : Seen) (r : Status) : Type 0 where
+  pub stay : AllStay old.files new.files
+  pub later : NoneFell old.faults new.faults
+  pub ended : Ended tells s old new r

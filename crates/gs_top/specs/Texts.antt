@@ -3,7 +3,7 @@ use Rattle.std.specs.Prelude.{ℕ, List, [], ◌∷◌, ◌++◌}
 use Rattle.std.specs.List.{flat_map}
 use Rattle.gs_report.specs.Text as report
 use Rattle.gs_verilog.specs.declared.parts.RawInst.{RawInst}
-use Rattle.gs_top.specs.Design.{Design}
+use Rattle.gs_top.specs.declared.design.Design.{Design}
 
 -- an instance's name, a space, its cell, a newline
 abbrev pub sizes_line : RawInst → List ℕ

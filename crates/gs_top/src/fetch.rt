@@ -1,12 +1,12 @@
 //! Fetching a file that a command reads.
-ghost use Rattle.std.specs.Prelude.{◌≡◌, ◌^◌, ◌≤◌, IfOk, IfErr, length};
-ghost use Rattle.gs_shelf.specs.Faults.{NoneFell};
-ghost use Rattle.gs_shelf.specs.Files.{content, AllStay};
-ghost use Rattle.gs_shelf.specs.declared.calls.Op.TheVariants.{Fetch};
-ghost use Rattle.gs_top.specs.Work.{fetch_status, FetchRefuses, LoadCauses};
+ghost use Rattle.std.specs.Prelude.{◌≡◌, ◌≤◌, IfOk, length};
+ghost use Rattle.gs_top.specs.Answer.{Works, seen};
+ghost use Rattle.gs_top.specs.Refusal.{fetch_status};
+ghost use Rattle.gs_top.specs.Stage.{fetch};
 
+use crate::files::JobFiles;
 use crate::status::{Input, Status};
-use gs_shelf::{FetchErr, Shelf, read_whole};
+use gs_shelf::{Bytes, FILE_LIMIT, FetchErr, Shelf, read_whole};
 use std::alloc::Global;
 
 fn fetch_status(file: Input, error: FetchErr) -> Status
@@ -19,23 +19,18 @@ fn fetch_status(file: Input, error: FetchErr) -> Status
     }
 }
 
-/// The bytes of the file of this name.
-pub(crate) fn fetch_file<H: Shelf>(
+/// The bytes of a job's file.
+pub(crate) fn fetch_file<J: JobFiles, H: Shelf>(
     alloc: Global,
     shelf: &mut H,
+    job: &J,
     file: Input,
-    name: &str,
-) -> Result<Vec<u8>, Status>
-    ensures ok { H.tells → IfOk result (λ v. v.items ≡ content (H.files shelf.old) name.now) }
-    ensures within { IfOk result (λ v. length v.items ≤ 2 ^ 28) }
-    ensures err { H.tells → IfErr result (FetchRefuses file (content (H.files shelf.old) name.now)) }
-    ensures cause { IfErr result (LoadCauses file (H.faults shelf.old Fetch name.now) (H.faults shelf.new Fetch name.now)) }
-    ensures stay { AllStay (H.files shelf.old) (H.files shelf.new) }
-    ensures said { H.said shelf.new ≡ H.said shelf.old }
-    ensures later { NoneFell (H.faults shelf.old) (H.faults shelf.new) }
+) -> Result<Bytes, Status>
+    ensures work { Works H.tells (fetch file) (J.inputs job.now) (seen (H.files shelf.old) (H.said shelf.old) (H.faults shelf.old)) (seen (H.files shelf.new) (H.said shelf.new) (H.faults shelf.new)) result }
+    ensures within { IfOk result (λ bytes. length bytes ≤ FILE_LIMIT) }
 {
-    match read_whole(alloc, shelf, name) {
-        Ok(bytes) => Ok(bytes),
+    match read_whole(alloc, shelf, job.input(file)) {
+        Ok(bytes) => Ok(Bytes::from_vec(bytes)),
         Err(error) => Err(fetch_status(file, error)),
     }
 }

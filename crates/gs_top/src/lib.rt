@@ -1,41 +1,59 @@
 //! The commands of `gate-sizer`: words in, files read and stored, one line said, one status answered.
 //!
 //! [`run`] does what the words say. Its contract is the headline of the project as far as it is built: what every file
-//! holds after each status (`Leaves`), what was said (`Says`), what stands behind each status on every shelf (`Causes`),
-//! that a refusal which the words and the bytes decide (`first_refusal`) is the answer, and that words of the form with a
-//! library and a netlist that make a design succeed, both but for a fault of the shelf or want of memory.
+//! holds after each status, as far as the shelf tells, and which files stay on every shelf (`Leaves`); what stands behind
+//! each status on every shelf (`Causes`); what was said (`Says`); and, but for a fault of the shelf or want of memory, that a
+//! job whose files make what its command is to make succeeds, and that the first refusal that the words and the bytes decide
+//! (`FirstRefusal`) is the answer.
 //!
-//! - `specs/Job.antt`: the form of the words.
-//! - `specs/Accepted.antt`: what a design is, as relations of its bytes, and the cause of each refusal.
-//! - `specs/Design.antt`: the same design, or the first refusal, as a function of the bytes.
-//! - `specs/Texts.antt`: the texts of a design. `specs/Line.antt`: the line of each status; `specs/Exit.antt`: its exit code.
-//! - `specs/Run.antt`: what a run leaves and says. `specs/Work.antt`: the steps between, of which no public clause speaks.
+//! A command is a chain of stages in the order of its work, and a plan of what it stores. A stage says what it makes of the
+//! bytes of the command's files, why it refuses them, and which files it comes to read. All texts of a plan are made before
+//! the first is stored. Everything else is said of any command, by the kind of its status.
 //!
-//! Work goes in one order: the words, then the library, the netlist and their design, then all text is made, then the sizes
-//! file and the report are stored, and last the status line is said. The first refusal ends it, and nothing is stored before
-//! all text is made.
+//! - `specs/Job.antt`: the form of the words, and the condition of a job. `specs/Stage.antt`: stages and how they follow one
+//!   another. `specs/Design.antt`: the stages of a design. `specs/Command.antt`: the commands. `specs/Texts.antt`: their texts.
+//! - `specs/Plan.antt`: what is stored, whole or in part. `specs/Kind.antt`: kinds of statuses, and when two refusals are one.
+//!   `specs/Run.antt`: what a run leaves, why, and what it says. `specs/Law.antt`: each job is decided by the bytes of its files.
+//! - `specs/Line.antt`: the line of each status; `specs/Exit.antt`: its exit code; `specs/Refusal.antt`: the statuses of the
+//!   readers' refusals.
+//! - `specs/Answer.antt`, `specs/Store.antt`, `specs/Act.antt`: what the calls between answer, of which no public clause
+//!   speaks.
 //!
 //! Reading costs what the readers cost; making the texts is one pass over the instances.
 //!
-//! A new input is a field of the job, a file beside `library.rt` and a step of `make`; a new output a field of `Texts` and a step
-//! of `store_texts`; a new command a case of the job in `specs/Job.antt` and `job.rt`, and a function beside `work`.
+//! A further input is a variant of `Input`, its name in the job and its line, and a stage with its call (as `netlist.rt`); a
+//! further output a variant of `Output`, its name in the job and its line, and a text of a plan; a further command a case of
+//! `Job` with its options, a `Command`, and two functions as in `size.rt`.
 #![tactic(auto)]
 
+mod design;
 mod fetch;
+mod files;
 mod job;
+mod law;
 mod library;
+#[cfg(test)]
+mod library_tests;
 mod line;
+mod link;
+mod name;
 mod netlist;
+mod options;
+mod plan;
 mod program;
+mod read;
+mod size;
 mod sizes;
 mod status;
 mod store;
 #[cfg(test)]
 mod tests;
-mod texts;
 mod words;
-mod work;
 
+pub use job::{Job, SizeJob};
+pub use law::each_job_is_decided;
+pub use name::Name;
 pub use program::run;
+pub use read::{WordsErr, read_words};
 pub use status::{Counted, Input, LinkErr, Output, Status, TextWhy, exit_of};
 pub use words::Words;

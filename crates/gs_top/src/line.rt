@@ -7,6 +7,9 @@ use gs_lib::LibErr;
 use itoa::Buffer;
 use std::alloc::{AllocError, Global};
 
+/// The line of words that make no job.
+pub(crate) const USAGE: &[u8] = b"usage: gate-sizer size, check, audit or gen, with options\n";
+
 fn input_name(file: Input) -> &'static str
     ensures { result.now ≡ input_name file }
 {
@@ -20,7 +23,6 @@ fn why_name(why: TextWhy) -> &'static str
     ensures { result.now ≡ why_name why }
 {
     match why {
-        TextWhy::NotBuilt => "notbuilt",
         TextWhy::OpenString => "openstring",
         TextWhy::OpenComment => "opencomment",
         TextWhy::TooDeep => "toodeep",
@@ -105,10 +107,7 @@ pub(crate) fn line_of(alloc: Global, status: &Status) -> Result<Vec<u8>, AllocEr
 {
     match status {
         Status::Written { instances } => written_line(alloc, *instances),
-        Status::Usage => Vec::from_slice(
-            alloc,
-            b"usage: gate-sizer size, check, audit or gen, with options\n",
-        ),
+        Status::Usage => Vec::from_slice(alloc, USAGE),
         Status::ReadFault { file } => file_line(alloc, "cannot read ", input_name(*file)),
         Status::TooLarge { file } => file_line(alloc, "too large ", input_name(*file)),
         Status::BadText { file, why, place } => {

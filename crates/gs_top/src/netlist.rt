@@ -1,17 +1,13 @@
 //! Reading the netlist.
-ghost use Rattle.std.specs.Prelude.{◌≡◌, ◌^◌, ◌≤◌, IfOk, IfErr, MatchResult, length};
-ghost use Rattle.gs_shelf.specs.Faults.{NoneFell};
-ghost use Rattle.gs_shelf.specs.Files.{content, AllStay};
-ghost use Rattle.gs_shelf.specs.declared.calls.Op.TheVariants.{Fetch};
-ghost use Rattle.gs_verilog.specs.Circuit.{Circuit};
-ghost use Rattle.gs_top.specs.Accepted.{IsNetlistOf, NetlistCause};
-ghost use Rattle.gs_top.specs.Design.{netlist_of, verilog_status};
-ghost use Rattle.gs_top.specs.Run.{AnswersRefusal};
-ghost use Rattle.gs_top.specs.declared.status.Status.{Status};
-ghost use Rattle.gs_top.specs.Work.{IsLost, IsTheNetlist, LoadCauses, LoadRefuses, Refuses};
-ghost use Rattle.gs_top.specs.declared.status.Input.{Input};
+ghost use Rattle.std.specs.Prelude.{◌≡◌, ◌≤◌, length};
+ghost use Rattle.gs_text.specs.Bytes.{max_text};
+ghost use Rattle.gs_top.specs.Answer.{Settles, Works, seen};
+ghost use Rattle.gs_top.specs.Design.{NetlistCause, netlist_text};
+ghost use Rattle.gs_top.specs.Refusal.{verilog_status};
+ghost use Rattle.gs_verilog.specs.Refusal.{IsVerilog};
 
 use crate::fetch::fetch_file;
+use crate::files::JobFiles;
 use crate::status::{Input, Status, TextWhy};
 use gs_shelf::Shelf;
 use gs_verilog::{Netlist, VerilogErr, read_netlist};
@@ -21,7 +17,7 @@ fn verilog_status(error: VerilogErr) -> Status
     ensures { result ≡ verilog_status error }
 {
     let (why, place) = match error {
-        VerilogErr::NotBuilt { at } => (TextWhy::NotBuilt, at),
+        VerilogErr::OpenComment { at } => (TextWhy::OpenComment, at),
         VerilogErr::BadPiece { i } => (TextWhy::BadPiece, i),
         VerilogErr::TwoNames { i } => (TextWhy::TwoNames, i),
         VerilogErr::NoEnd { i } => (TextWhy::NoEnd, i),
@@ -36,12 +32,8 @@ fn verilog_status(error: VerilogErr) -> Status
 
 /// The netlist of its bytes.
 fn read_text(alloc: Global, bytes: &[u8]) -> Result<Netlist, Status>
-    requires { length bytes.now ≤ 2 ^ 28 }
-    ensures ok { IfOk result (λ c. IsTheNetlist bytes.now c) }
-    ensures few { IfOk result (λ c. length c.insts ≤ 2 ^ 28) }
-    ensures err { IfErr result (Refuses (netlist_of bytes.now) (NetlistCause bytes.now)) }
-    ensures complete { (c : Circuit) → IsNetlistOf bytes.now c → IfErr result (λ s. s ≡ Status.OutOfMemory) }
-    ensures exact { (s : Status) → NetlistCause bytes.now s → MatchResult result (λ c. ⊥) (AnswersRefusal s) }
+    requires { length bytes.now ≤ max_text }
+    ensures { Settles (IsVerilog bytes.now) (NetlistCause bytes.now) result }
 {
     match read_netlist(alloc, bytes) {
         Ok(netlist) => Ok(netlist),
@@ -50,22 +42,14 @@ fn read_text(alloc: Global, bytes: &[u8]) -> Result<Netlist, Status>
 }
 
 /// Fetches the netlist and reads it.
-pub(crate) fn load_netlist<H: Shelf>(
+pub(crate) fn load_netlist<J: JobFiles, H: Shelf>(
     alloc: Global,
     shelf: &mut H,
-    name: &str,
+    job: &J,
 ) -> Result<Netlist, Status>
-    ensures ok { H.tells → IfOk result (λ c. IsTheNetlist (content (H.files shelf.old) name.now) c) }
-    ensures few { IfOk result (λ c. length c.insts ≤ 2 ^ 28) }
-    ensures err { H.tells → IfErr result (LoadRefuses Input.Verilog (netlist_of (content (H.files shelf.old) name.now)) (NetlistCause (content (H.files shelf.old) name.now))) }
-    ensures exact { H.tells → (s : Status) → NetlistCause (content (H.files shelf.old) name.now) s → MatchResult result (λ c. ⊥) (AnswersRefusal s) }
-    ensures complete { H.tells → (c : Circuit) → IsNetlistOf (content (H.files shelf.old) name.now) c → IfErr result (IsLost Input.Verilog) }
-    ensures cause { IfErr result (LoadCauses Input.Verilog (H.faults shelf.old Fetch name.now) (H.faults shelf.new Fetch name.now)) }
-    ensures stay { AllStay (H.files shelf.old) (H.files shelf.new) }
-    ensures said { H.said shelf.new ≡ H.said shelf.old }
-    ensures later { NoneFell (H.faults shelf.old) (H.faults shelf.new) }
+    ensures { Works H.tells netlist_text (J.inputs job.now) (seen (H.files shelf.old) (H.said shelf.old) (H.faults shelf.old)) (seen (H.files shelf.new) (H.said shelf.new) (H.faults shelf.new)) result }
 {
-    match fetch_file(alloc, shelf, Input::Verilog, name) {
+    match fetch_file(alloc, shelf, job, Input::Verilog) {
         Ok(bytes) => read_text(alloc, bytes.as_slice()),
         Err(status) => Err(status),
     }

@@ -28,8 +28,6 @@ pub enum Output {
 /// Why a text is refused.
 #[derive(Clone, Copy, Debug, PartialEq, Eq)]
 pub enum TextWhy {
-    /// A comment or an escaped name in a netlist, which aren't built yet.
-    NotBuilt,
     /// A string without an end.
     OpenString,
     /// A comment without an end.
@@ -79,8 +77,8 @@ pub enum Status {
     TooLarge {
         file: Input,
     },
-    /// The file's text is refused. `place` counts bytes from 0 for `NotBuilt`, `OpenString` and `OpenComment`, pieces from 0 for
-    /// the others; it is the number of pieces where the text ends too early.
+    /// The file's text is refused. `place` counts bytes from 0 for `OpenString` and `OpenComment`, pieces from 0 for the
+    /// others; it is the number of pieces where the text ends too early.
     BadText {
         file: Input,
         why: TextWhy,

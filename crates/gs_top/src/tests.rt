@@ -71,10 +71,10 @@ fn shelf_with(
 {
     Ok(MemShelf {
         files,
-        said: Bytes::new(alloc),
+        said: Bytes::empty(alloc),
         calls: 0,
         fails: Numbers::from_vec(Vec::from_slice(alloc, fails)?),
-        failed: Failures::new(alloc),
+        failed: Failures::empty(alloc),
         most,
     })
 }
@@ -148,7 +148,7 @@ fn refusals_of_netlists() -> [Row; 4] {
             "module m; input a, a; endmodule",
             "bad netlist twonames at 6\n",
         ),
-        refused(CELLS, "module m; // x", "bad netlist notbuilt at 10\n"),
+        refused(CELLS, "module m; /* x", "bad netlist opencomment at 10\n"),
     ]
 }
 
@@ -195,12 +195,12 @@ fn refusals_of_designs() -> [Row; 6] {
 fn ends_so(alloc: Global, row: Row) -> Result<bool, Fail> {
     let mut shelf = NeverFails {
         files: files_with(alloc, row.library, row.netlist)?,
-        said: Bytes::new(alloc),
+        said: Bytes::empty(alloc),
     };
-    let status = run(alloc, &size_words(alloc)?, &mut shelf);
+    let status = run(&(), alloc, &size_words(alloc)?, &mut shelf);
     let sizes = shelf.files.get(b"n.sizes") == Some(row.sizes.as_bytes());
     let report = shelf.files.get(b"n.rpt") == Some(row.report.as_bytes());
-    let said = shelf.said.is(row.said.as_bytes());
+    let said = shelf.said.as_slice() == row.said.as_bytes();
     Ok(exit_of(&status) == row.exit && said && sizes && report)
 }
 
@@ -229,7 +229,7 @@ fn each_refusal(rt: HostRuntime) -> Result<(), Fail> {
 /// The status of a run over a shelf of one-byte fetches.
 fn status_of(alloc: Global, library: &str, netlist: &str) -> Result<Status, Fail> {
     let mut shelf = shelf_with(alloc, files_with(alloc, library, netlist)?, &[], 1)?;
-    Ok(run(alloc, &size_words(alloc)?, &mut shelf))
+    Ok(run(&(), alloc, &size_words(alloc)?, &mut shelf))
 }
 
 /// Whether the library lacks the cell of the instance of this name.
@@ -272,8 +272,8 @@ fn fails_so(
     report: &str,
 ) -> Result<Option<Status>, Fail> {
     let mut shelf = shelf_with(alloc, files_with(alloc, CELLS, CHAIN)?, &[k], 1000)?;
-    let status = run(alloc, &size_words(alloc)?, &mut shelf);
-    let stands = shelf.said.is(said.as_bytes())
+    let status = run(&(), alloc, &size_words(alloc)?, &mut shelf);
+    let stands = shelf.said.as_slice() == said.as_bytes()
         && shelf.files.get(b"n.sizes") == Some(sizes.as_bytes())
         && shelf.files.get(b"n.rpt") == Some(report.as_bytes());
     Ok(if stands { Some(status) } else { None })
@@ -353,9 +353,9 @@ fn the_line_fails(rt: HostRuntime) -> Result<(), Fail> {
 fn files_are_missing(rt: HostRuntime) -> Result<(), Fail> {
     let alloc = rt.alloc();
     let mut shelf = shelf_with(alloc, FileList::new(alloc), &[], 9)?;
-    let status = run(alloc, &size_words(alloc)?, &mut shelf);
+    let status = run(&(), alloc, &size_words(alloc)?, &mut shelf);
     assert_eq!(rt; exit_of(&status), 4);
-    assert!(rt; shelf.said.is(b"cannot read library\n"));
+    assert!(rt; shelf.said.as_slice() == b"cannot read library\n".as_slice());
     assert!(rt; shelf.files.get(b"n.sizes").is_none());
     Ok(())
 }
@@ -363,10 +363,10 @@ fn files_are_missing(rt: HostRuntime) -> Result<(), Fail> {
 /// Whether the words make no job, also where the line can't be said.
 fn is_usage(alloc: Global, words: &Words) -> Result<bool, Fail> {
     let mut shelf = shelf_with(alloc, FileList::new(alloc), &[1], 9)?;
-    let said = run(alloc, words, &mut shelf);
-    let unsaid = run(alloc, words, &mut shelf);
+    let said = run(&(), alloc, words, &mut shelf);
+    let unsaid = run(&(), alloc, words, &mut shelf);
     let line = b"usage: gate-sizer size, check, audit or gen, with options\n";
-    Ok(exit_of(&said) == 2 && exit_of(&unsaid) == 2 && shelf.said.is(line.as_slice()))
+    Ok(exit_of(&said) == 2 && exit_of(&unsaid) == 2 && shelf.said.as_slice() == line.as_slice())
 }
 
 #[test]
@@ -402,10 +402,10 @@ fn says(alloc: Global, library: &[u8], netlist: &[u8], line: &str) -> Result<boo
     let mut files = FileList::new(alloc);
     files.put(alloc, b"n.lib", library)?;
     files.put(alloc, b"n.v", netlist)?;
-    let said = Bytes::new(alloc);
+    let said = Bytes::empty(alloc);
     let mut shelf = NeverFails { files, said };
-    let _ = run(alloc, &size_words(alloc)?, &mut shelf);
-    Ok(shelf.said.is(line.as_bytes()))
+    let _ = run(&(), alloc, &size_words(alloc)?, &mut shelf);
+    Ok(shelf.said.as_slice() == line.as_bytes())
 }
 
 #[test]

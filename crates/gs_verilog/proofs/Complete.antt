@@ -4,8 +4,10 @@ use Rattle.std.proofs.Common.{◌≡◌, ℕ, List, [], ◌∷◌, ◌++◌, Opt
 use Rattle.std.specs.List.{flat_map, AllByRecursion}
 use Rattle.gs_grammar.specs.Machine.{run}
 use Rattle.gs_grammar.proofs.Runs.{run-ok, run-nil}
+use Rattle.gs_drive.specs.declared.machine.Fault.{Fault}
+use Rattle.gs_verilog.specs.declared.error.Rule.{Rule}
 use Rattle.gs_verilog.specs.Circuit.{Circuit}
-use Rattle.gs_verilog.specs.Machine.{State, Fault, step, no_rule, arrived, next, start, declared, with_inst, connected, empty}
+use Rattle.gs_verilog.specs.Machine.{State, step, no_rule, arrived, next, start, declared, with_inst, connected, empty}
 use Rattle.gs_verilog.specs.Token.{Token, keyword, mark, IsName}
 use Rattle.gs_verilog.specs.Tree.{Connection, Item, Declaration, Tree, Form, IsItem, IsHeader, IsConnection, item, header, comma_name, comma_connection, connection_list, role_word}
 use Rattle.gs_verilog.specs.Tree.{Instance as Placed}
@@ -18,7 +20,7 @@ use Rattle.gs_verilog.proofs.Classes.{class_name}
 use Rattle.gs_verilog.proofs.Folds.{names_into, links_into, item_into, items_into, titled, tree_into}
 use Rattle.gs_verilog.proofs.Sound.{at}
 
-abbrev free : State → Token → Result State Fault
+abbrev free : State → Token → Result State (Fault Rule)
 free = step no_rule
 
 abbrev Run : State → List Token → State → List Token → Type 0

@@ -6,8 +6,10 @@ use Rattle.std.specs.Str.{bytes_eq}
 use Rattle.gs_grammar.specs.Machine.{run}
 use Rattle.gs_grammar.proofs.Runs.{run-ok, run-nil}
 use Rattle.gs_text.specs.declared.kinds.Kind.TheVariants.{Escaped}
+use Rattle.gs_drive.specs.declared.machine.Fault.{Fault}
+use Rattle.gs_verilog.specs.declared.error.Rule.{Rule}
 use Rattle.gs_verilog.specs.Circuit.{Circuit, NetsFit}
-use Rattle.gs_verilog.specs.Machine.{State, Twice, step, named_before, declared, with_inst, connected, has_port, has_inst, has_pin, last_has}
+use Rattle.gs_verilog.specs.Machine.{State, step, named_before, declared, with_inst, connected, has_port, has_inst, has_pin, last_has}
 use Rattle.gs_verilog.specs.Text.{number}
 use Rattle.gs_verilog.specs.Token.{Token, keyword, mark}
 use Rattle.gs_verilog.specs.declared.machine.Place.{Place}
@@ -154,7 +156,7 @@ before : (s m : State) (t : Token) (ts : List Token) → step named_before s t �
 before s m t ts e f = record { end = f.end; by = run-ok (step named_before) s m t ts e ∙ f.by; place = f.place }
 
 -- a step at which a rule is asked
-asked : (b : Bool) (m : State) → b ≡ false → (if b then Err Twice else Ok m) ≡ Ok m
+asked : (b : Bool) (m : State) → b ≡ false → (if b then Err (Fault.Broken Rule.NamesDiffer) else Ok m) ≡ Ok m
 asked b m e = rw e refl
 
 finished_items : (c : Circuit) (cell pin : List ℕ) → Finished (at Items c cell pin) last

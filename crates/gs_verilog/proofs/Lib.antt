@@ -1,7 +1,6 @@
 pub mod Agree
 pub mod Classes
 pub mod Complete
-pub mod Exact
 pub mod Finish
 pub mod Fits
 pub mod Folds

@@ -1,15 +1,20 @@
--- The reader's loop, and the clauses of the public call.
+-- What a reader may rest on after some pieces, and the clauses of the public call.
 
-use Rattle.std.proofs.Common.{◌≡◌, ℕ, ◌+◌, ◌-◌, ◌<◌, ◌≤◌, List, [], ◌∷◌, length, get_or, drop, map, refl, sym, ap, subst, ◌∙◌, inl, inr, Option, None, Some, Result, Ok, Err, IfOk, IfErr, MatchResult, arith, length-append}
+use Rattle.std.proofs.Common.{◌≡◌, ◌≢◌, ℕ, ◌+◌, ◌≤◌, ◌^◌, List, [], ◌∷◌, length, map, refl, ap, subst, ◌∙◌, Option, None, Some, Result, Ok, Err, IfOk, arith, length-append}
 use Rattle.std.specs.List.{All, AllByRecursion, list_any}
 use Rattle.std.specs.Str.{bytes_eq}
-use Rattle.std.proofs.lemmas.List.{length-drop, length-map}
+use Rattle.std.proofs.lemmas.List.{length-map}
 use Rattle.std.proofs.lemmas.List.Elements.{All-head, All-tail}
-use Rattle.std.proofs.Math.ListN.{get_or-map}
+use Rattle.gs_drive.specs.Cause.{Cause}
+use Rattle.gs_drive.specs.Pieces.{HasPieces}
+use Rattle.gs_drive.specs.Read.{HasRead}
+use Rattle.gs_drive.specs.Tokens.{token_of, tokens_from}
+use Rattle.gs_drive.specs.declared.refusal.Refusal.{Refusal}
 use Rattle.gs_grammar.specs.Machine.{run}
-use Rattle.gs_grammar.proofs.Runs.{turn, halt, done}
-use Rattle.gs_text.specs.Cut.{pieces}
-use Rattle.gs_text.specs.Cut.{Fails as CutFails}
+use Rattle.gs_grammar.proofs.Answers.{SameCauses}
+use Rattle.gs_grammar.proofs.Runs.{begins, run-nil}
+use Rattle.gs_text.specs.Bytes.{max_text}
+use Rattle.gs_text.specs.Faults.{HasFault}
 use Rattle.gs_text.specs.Pieces.{HasGoodText, IsUnbroken, text_of}
 use Rattle.gs_text.specs.declared.kinds.Kind.{Kind}
 use Rattle.gs_text.specs.declared.kinds.Kind.TheVariants.{Word, Escaped, Text, Mark}
@@ -17,22 +22,22 @@ use Rattle.gs_text.specs.declared.kinds.Piece.{Piece}
 use Rattle.gs_text.specs.declared.kinds.Style.TheVariants.{Verilog}
 use Rattle.gs_text.specs.declared.kinds.TextErr.{TextErr}
 use Rattle.gs_verilog.specs.Circuit.{Circuit, IsNetlist}
-use Rattle.gs_verilog.specs.Index.{StepFails, refusal_of, unread}
-use Rattle.gs_verilog.specs.Machine.{State, Fault, Bad, Twice, step, no_rule, named_before, arrived, next, moved, class, start, with_net, at_end, ended, reading, judged, outcome, Fails}
+use Rattle.gs_verilog.specs.Index.{refusal_of}
+use Rattle.gs_verilog.specs.Machine.{State, step, no_rule, named_before, arrived, next, moved, class, start, with_net}
 use Rattle.gs_verilog.specs.Refusal.{HasCause, IsVerilog}
-use Rattle.gs_verilog.specs.Token.{Token, token_of, tokens_from}
-use Rattle.gs_verilog.specs.declared.error.StepErr.{StepErr}
-use Rattle.gs_verilog.specs.declared.error.StepErr.TheVariants as fails
+use Rattle.gs_verilog.specs.Text.{VerilogText, number}
+use Rattle.gs_verilog.specs.Token.{Token, token, tokens}
+use Rattle.gs_verilog.specs.Tree.{IsForm}
+use Rattle.gs_verilog.specs.declared.error.Rule.{Rule}
 use Rattle.gs_verilog.specs.declared.error.VerilogErr.{VerilogErr}
 use Rattle.gs_verilog.specs.declared.machine.Place.{Place}
 use Rattle.gs_verilog.specs.declared.machine.Place.TheVariants.{Names, Instance, Net}
 use Rattle.gs_verilog.specs.declared.machine.Role.TheVariants.{Input, Output, Wire}
-use Rattle.gs_verilog.specs.Text.{number}
 use Rattle.gs_verilog.specs.declared.parts.Link.{Link}
 use Rattle.gs_verilog.specs.declared.parts.RawInst.{RawInst}
 use Rattle.gs_verilog.proofs.Fits.{HoldsAt, HoldsOf, with_net-few}
 use Rattle.gs_verilog.proofs.Indexes.{length-with_link}
-use Rattle.gs_verilog.proofs.Laws.{kept, ok_bytes, bytes_ok, err_bytes}
+use Rattle.gs_verilog.proofs.Laws.{kept, run_of_text}
 use Rattle.gs_verilog.proofs.Rules.{allowed}
 
 -- ---- one step adds at most one net and one instance
@@ -74,142 +79,97 @@ good_of Escaped text h = h
 good_of Text text h = h
 good_of Mark text h = h
 
-pub good_tokens : (bytes : List ℕ) (ps : List Piece) → All (λ (p : Piece). HasGoodText p.kind (text_of bytes p)) ps → AllByRecursion (HoldsAt IsUnbroken) (map (token_of bytes) ps)
+pub good_tokens : (bytes : List ℕ) (ps : List Piece) → All (λ (p : Piece). HasGoodText p.kind (text_of bytes p)) ps → AllByRecursion (HoldsAt IsUnbroken) (map (token_of token bytes) ps)
 good_tokens bytes [] h = tt
 good_tokens bytes (p ∷ ps) h =
     let P : Piece → Type 0 = λ q. HasGoodText q.kind (text_of bytes q) in
     (good_of p.kind (text_of bytes p) (All-head P p ps h), good_tokens bytes ps (All-tail P p ps h))
 
--- ---- the loop
+-- ---- what a reader that has read so much may rest on
 
-pub next_turn : (bytes : List ℕ) (ps : List Piece) (i : ℕ) (d : Piece) (s m : State)
-    → i < length ps → step named_before s (token_of bytes (get_or ps i d)) ≡ Ok m
-    → run (step named_before) s (drop i (map (token_of bytes) ps)) ≡ run (step named_before) start (map (token_of bytes) ps)
-    → run (step named_before) m (drop (i + 1) (map (token_of bytes) ps)) ≡ run (step named_before) start (map (token_of bytes) ps)
-next_turn bytes ps i d s m lt e so_far =
-    let ts = map (token_of bytes) ps in
-    let n = length-map ps (token_of bytes) in
-    turn (step named_before) s m ts i (token_of bytes d) (run (step named_before) start ts) (omega arith)
-    (ap (step named_before s) (get_or-map (token_of bytes) ps i d) ∙ e) so_far
+pub record AreFew (n : ℕ) (c : Circuit) : Type 0 where
+  pub nets : length c.nets ≤ n
+  pub insts : length c.insts ≤ n
 
-stopped : (ts : List Token) (i : ℕ) (f : Fault) → i < length ts → run (step named_before) start ts ≡ Err (f, drop i ts) → length ts - length (drop i ts) ≡ i
-stopped ts i f lt e = omega (arith, length-drop i ts)
+few_after : (m n : ℕ) (c d : Circuit) → AreFew m c → AddsFew c d → m + 1 ≤ n → AreFew n d
+few_after m n c d f a le = record { nets = omega (arith, f.nets, a.nets); insts = omega (arith, f.insts, a.insts) }
 
-pub refused : (bytes : List ℕ) (ps : List Piece) (i : ℕ) (d : Piece) (s : State) (e : StepErr)
-    → i < length ps → StepFails e (step named_before s (token_of bytes (get_or ps i d)))
-    → run (step named_before) s (drop i (map (token_of bytes) ps)) ≡ run (step named_before) start (map (token_of bytes) ps)
-    → Fails (refusal_of i e) (reading (map (token_of bytes) ps))
-refused bytes ps i d s fails.Bad lt h so_far =
-    let ts = map (token_of bytes) ps in
-    let n = length-map ps (token_of bytes) in
-    let inside : i < length ts = omega arith in
-    let all = halt (step named_before) s Bad ts i (token_of bytes d) (run (step named_before) start ts) inside (ap (step named_before s) (get_or-map (token_of bytes) ps i d) ∙ h) so_far in
-    inr (ap (ended (length ts)) all ∙ ap (λ k. Err (VerilogErr.BadPiece k)) (stopped ts i Bad inside all))
-refused bytes ps i d s fails.Twice lt h so_far =
-    let ts = map (token_of bytes) ps in
-    let n = length-map ps (token_of bytes) in
-    let inside : i < length ts = omega arith in
-    let all = halt (step named_before) s Twice ts i (token_of bytes d) (run (step named_before) start ts) inside (ap (step named_before s) (get_or-map (token_of bytes) ps i d) ∙ h) so_far in
-    inr (ap (ended (length ts)) all ∙ ap (λ k. Err (VerilogErr.TwoNames k)) (stopped ts i Twice inside all))
-refused bytes ps i d s fails.Mem lt h so_far = inl refl
+run_few_from : (ts : List Token) (s end : State) (n : ℕ) → run (step named_before) s ts ≡ Ok end → AreFew n s.circuit → AreFew (n + length ts) end.circuit
+run_few_from [] s end n h f =
+    let same : s ≡ end = cc (run-nil (step named_before) s) in
+    let P : State → Type 0 = λ x. AreFew (n + 0) x.circuit in
+    subst P same (record { nets = omega (arith, f.nets); insts = omega (arith, f.insts) })
+run_few_from (t ∷ ts) s end n h f =
+    let b = begins (step named_before) s end t ts h in
+    let next : AreFew (n + 1) b.middle.circuit = few_after n (n + 1) s.circuit b.middle.circuit f (step_few s b.middle t b.first) (omega arith) in
+    let all = run_few_from ts b.middle end (n + 1) b.rest next in
+    record { nets = omega (arith, all.nets); insts = omega (arith, all.insts) }
 
--- the whole list is read
-pub record ReadAll (ts : List Token) (s : State) : Type 0 where
-  pub run_is : run (step named_before) start ts ≡ Ok s
-  pub reading_is : reading ts ≡ at_end s.place s.circuit (length ts)
+-- so many tokens make at most as many nets and instances
+run_few : (ts : List Token) (end : State) → run (step named_before) start ts ≡ Ok end → AreFew (length ts) end.circuit
+run_few ts end h =
+    let all = run_few_from ts start end 0 h (record { nets = omega arith; insts = omega arith }) in
+    record { nets = omega (arith, all.nets); insts = omega (arith, all.insts) }
 
-pub read_all : (ts : List Token) (i : ℕ) (s : State) → length ts ≤ i
-    → run (step named_before) s (drop i ts) ≡ run (step named_before) start ts → ReadAll ts s
-read_all ts i s le so_far =
-    let all = done (step named_before) s ts i (run (step named_before) start ts) le so_far in
-    record { run_is = all; reading_is = ap (ended (length ts)) all }
+abbrev pub Read : State → Type 0
+Read s = HasRead token (step named_before) start s
 
-pub whole_kept : (bytes : List ℕ) (ps : List Piece) (s : State) → All (λ (p : Piece). HasGoodText p.kind (text_of bytes p)) ps
-    → ReadAll (map (token_of bytes) ps) s → IsNetlist s.circuit
-whole_kept bytes ps s good r = kept (map (token_of bytes) ps) s r.run_is (good_tokens bytes ps good)
+pub read_few : (s : State) → Read s → AreFew max_text s.circuit
+read_few s h =
+    let f = run_few (map (token_of token h.bytes) h.pieces) s h.run_is in
+    let n = length-map h.pieces (token_of token h.bytes) in
+    record { nets = omega (arith, f.nets, n, h.few); insts = omega (arith, f.insts, n, h.few) }
 
--- ---- the bytes
+pub read_kept : (s : State) → Read s → IsNetlist s.circuit
+read_kept s h = kept (map (token_of token h.bytes) h.pieces) s h.run_is (good_tokens h.bytes h.pieces h.solid)
 
-pub unread_fails : (bytes : List ℕ) (e : TextErr) → CutFails e (pieces Verilog bytes) → Fails (unread e) (outcome bytes)
-unread_fails bytes (TextErr.NotBuilt at) h = inr (ap (λ r. judged (tokens_from bytes r)) h)
-unread_fails bytes _ h = inl refl
+-- ---- the clauses of the public call
 
--- ---- the clauses, from the answer as a function of the bytes
+text_few : (ts : List Token) (c : Circuit) → VerilogText ts c → length c.insts ≤ length ts
+text_few ts c t =
+    let w = run_of_text ts c t in
+    let f = run_few ts w.end w.by in
+    omega (arith, f.insts, ap (λ (d : Circuit). length d.insts) w.circuit)
 
-abbrev pub Answers : List ℕ → Result Circuit VerilogErr → Type 0
-Answers bytes r = MatchResult r (λ n. outcome bytes ≡ Ok n) (λ e. Fails e (outcome bytes))
+few_by : (bytes : List ℕ) (c : Circuit) → IsVerilog bytes c → HasPieces Verilog bytes → length c.insts ≤ length bytes
+few_by bytes c v h =
+    let found : tokens bytes ≡ Ok (map (token_of token bytes) h.found) = ap (tokens_from token bytes) h.cut_is in
+    let same : v.0 ≡ map (token_of token bytes) h.found = cc (v.1, found) in
+    omega (arith, text_few v.0 c v.2, ap (λ (ts : List Token). length ts) same, length-map h.found (token_of token bytes), h.few)
 
-pub answers_ok : (bytes : List ℕ) (r : Result Circuit VerilogErr) → Answers bytes r → IfOk r (λ n. IsVerilog bytes n)
-answers_ok bytes (Ok n) h = ok_bytes bytes n h
-answers_ok bytes (Err e) h = tt
+pub few_insts : (bytes : List ℕ) (r : Result Circuit (Refusal Rule)) → IfOk r (λ c. IsVerilog bytes c) → IfOk r (λ _. HasPieces Verilog bytes)
+    → IfOk r (λ c. length c.insts ≤ length bytes)
+few_insts bytes (Ok c) v h = few_by bytes c v h
+few_insts bytes (Err e) v h = tt
 
-only_err : (bytes : List ℕ) (c : Circuit) (e : VerilogErr) → outcome bytes ≡ Ok c → Fails e (outcome bytes) → e ≡ VerilogErr.Mem
-only_err bytes c e h (inl m) = m
-only_err bytes c e h (inr k) = let never : Ok c ≡ Err e = sym h ∙ k in cc
+-- the driver's causes
+abbrev pub Causes : List ℕ → Refusal Rule → Type 0
+Causes bytes e = Cause (HasFault Verilog bytes) IsForm VerilogText (λ _ (_ : Rule). Unit {0}) (tokens bytes) e
 
-pub answers_only : (bytes : List ℕ) (r : Result Circuit VerilogErr) → Answers bytes r → (c : Circuit) → IsVerilog bytes c
-    → MatchResult r (λ n. n ≡ c) (λ e. e ≡ VerilogErr.Mem)
-answers_only bytes (Ok n) h c v = let both : Ok n ≡ Ok c = sym h ∙ bytes_ok bytes c v in cc
-answers_only bytes (Err e) h c v = only_err bytes c e (bytes_ok bytes c v) h
+named : (bytes : List ℕ) (e : Refusal Rule) → Causes bytes e → HasCause bytes (refusal_of e)
+named bytes (Refusal.Text (TextErr.OpenString at)) c = absurd c
+named bytes (Refusal.Text (TextErr.OpenComment at)) c = c
+named bytes (Refusal.Text TextErr.Mem) c = tt
+named bytes (Refusal.Bad i) c = c
+named bytes (Refusal.Broken i rule) c = (c.0, c.1, c.2.0)
+named bytes (Refusal.Early i) c = c
+named bytes Refusal.Mem c = tt
 
-err_by : (bytes : List ℕ) (e : VerilogErr) → Fails e (outcome bytes) → HasCause bytes e
-err_by bytes e (inl m) = subst (HasCause bytes) (sym m) tt
-err_by bytes e (inr k) = err_bytes bytes e k
+back : (bytes : List ℕ) (f : VerilogErr) → f ≢ VerilogErr.Mem → HasCause bytes f → (e : Refusal Rule) × (Causes bytes e) × (refusal_of e ≡ f)
+back bytes (VerilogErr.OpenComment at) n c = (Refusal.Text (TextErr.OpenComment at), c, refl)
+back bytes (VerilogErr.BadPiece i) n c = (Refusal.Bad i, c, refl)
+back bytes (VerilogErr.TwoNames i) n c = (Refusal.Broken i Rule.NamesDiffer, (c.0, c.1, (c.2, tt)), refl)
+back bytes (VerilogErr.NoEnd i) n c = (Refusal.Early i, c, refl)
+back bytes VerilogErr.Mem n c = absurd (n refl)
 
-pub answers_err : (bytes : List ℕ) (r : Result Circuit VerilogErr) → Answers bytes r → IfErr r (λ e. HasCause bytes e)
-answers_err bytes (Ok n) h = tt
-answers_err bytes (Err e) h = err_by bytes e h
+stays : (bytes : List ℕ) (e : Refusal Rule) → e ≢ Refusal.Mem → Causes bytes e → refusal_of e ≢ VerilogErr.Mem
+stays bytes (Refusal.Text (TextErr.OpenString at)) n c h = cc
+stays bytes (Refusal.Text (TextErr.OpenComment at)) n c h = cc
+stays bytes (Refusal.Text TextErr.Mem) n c h = c
+stays bytes (Refusal.Bad i) n c h = cc
+stays bytes (Refusal.Broken i rule) n c h = cc
+stays bytes (Refusal.Early i) n c h = cc
+stays bytes Refusal.Mem n c h = n refl
 
--- the answer on the pieces is the answer on the bytes
-pub answers_pieces : (bytes : List ℕ) (ps qs : List Piece) (r : Result Circuit VerilogErr) → pieces Verilog bytes ≡ Ok ps → qs ≡ ps
-    → MatchResult r (λ n. reading (map (token_of bytes) qs) ≡ Ok n) (λ e. Fails e (reading (map (token_of bytes) qs))) → Answers bytes r
-answers_pieces bytes ps qs r e same h =
-    let P : Result Circuit VerilogErr → Type 0 = λ o. MatchResult r (λ n. o ≡ Ok n) (λ x. Fails x o) in
-    subst P (ap (λ us. reading (map (token_of bytes) us)) same ∙ sym (ap (λ found. judged (tokens_from bytes found)) e)) h
-
--- ---- the loop, where a token is given by its kind and its text
-
-token_is : (bytes : List ℕ) (p : Piece) (text : List ℕ) → text ≡ text_of bytes p → token_of bytes p ≡ record { kind = p.kind; text = text }
-token_is bytes p text e = ap (λ (x : List ℕ). record { kind = p.kind; text = x }) (sym e)
-
-pub piece_taken : (bytes : List ℕ) (ps : List Piece) (i : ℕ) (d : Piece) (s m : State) (text : List ℕ)
-    → i < length ps → text ≡ text_of bytes (get_or ps i d) → step named_before s (record { kind = (get_or ps i d).kind; text = text }) ≡ Ok m
-    → run (step named_before) s (drop i (map (token_of bytes) ps)) ≡ run (step named_before) start (map (token_of bytes) ps)
-    → run (step named_before) m (drop (i + 1) (map (token_of bytes) ps)) ≡ run (step named_before) start (map (token_of bytes) ps)
-piece_taken bytes ps i d s m text lt same e so_far =
-    next_turn bytes ps i d s m lt (ap (step named_before s) (token_is bytes (get_or ps i d) text same) ∙ e) so_far
-
-pub piece_refused : (bytes : List ℕ) (ps : List Piece) (i : ℕ) (d : Piece) (s : State) (text : List ℕ) (e : StepErr)
-    → i < length ps → text ≡ text_of bytes (get_or ps i d) → StepFails e (step named_before s (record { kind = (get_or ps i d).kind; text = text }))
-    → run (step named_before) s (drop i (map (token_of bytes) ps)) ≡ run (step named_before) start (map (token_of bytes) ps)
-    → Fails (refusal_of i e) (reading (map (token_of bytes) ps))
-piece_refused bytes ps i d s text e lt same h so_far =
-    refused bytes ps i d s e lt (subst (λ t. StepFails e (step named_before s t)) (sym (token_is bytes (get_or ps i d) text same)) h) so_far
-
-pub pieces_read : (bytes : List ℕ) (ps : List Piece) (i : ℕ) (s : State) → length ps ≤ i
-    → run (step named_before) s (drop i (map (token_of bytes) ps)) ≡ run (step named_before) start (map (token_of bytes) ps)
-    → ReadAll (map (token_of bytes) ps) s
-pieces_read bytes ps i s le so_far =
-    let n = length-map ps (token_of bytes) in
-    read_all (map (token_of bytes) ps) i s (omega arith) so_far
-
-pub finish_answers : (bytes : List ℕ) (ps : List Piece) (s : State) (count : ℕ) (r : Result Circuit VerilogErr) → ReadAll (map (token_of bytes) ps) s → count ≡ length ps
-    → MatchResult r (λ n. at_end s.place s.circuit count ≡ Ok n) (λ e. Fails e (at_end s.place s.circuit count))
-    → MatchResult r (λ n. reading (map (token_of bytes) ps) ≡ Ok n) (λ e. Fails e (reading (map (token_of bytes) ps)))
-finish_answers bytes ps s count r all n h =
-    let P : Result Circuit VerilogErr → Type 0 = λ o. MatchResult r (λ c. o ≡ Ok c) (λ e. Fails e o) in
-    subst P (ap (λ k. at_end s.place s.circuit k) (n ∙ sym (length-map ps (token_of bytes))) ∙ sym all.reading_is) h
-
-pub piece_few : (ps : List Piece) (i : ℕ) (d : Piece) (s m : State) (text : List ℕ)
-    → step named_before s (record { kind = (get_or ps i d).kind; text = text }) ≡ Ok m → AddsFew s.circuit m.circuit
-piece_few ps i d s m text e = step_few s m (record { kind = (get_or ps i d).kind; text = text }) e
-
--- ---- how many instances there are
-
-pub few_insts : (c : Circuit) (n : ℕ) (r : Result Circuit VerilogErr) → length c.insts ≤ n → IfOk r (λ d. d ≡ c) → IfOk r (λ d. length d.insts ≤ n)
-few_insts c n (Ok d) le e = let k = ap (λ (x : Circuit). length x.insts) e in omega arith
-few_insts c n (Err e) le h = tt
-
-pub fewer_insts : (m n : ℕ) (r : Result Circuit VerilogErr) → m ≤ n → IfOk r (λ d. length d.insts ≤ m) → IfOk r (λ d. length d.insts ≤ n)
-fewer_insts m n (Ok d) le h = omega arith
-fewer_insts m n (Err e) le h = tt
+pub same_causes : (bytes : List ℕ) → SameCauses Refusal.Mem VerilogErr.Mem refusal_of (Causes bytes) (HasCause bytes)
+same_causes bytes = record { memory = refl; there = named bytes; back = back bytes; stays = stays bytes }

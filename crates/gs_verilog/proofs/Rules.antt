@@ -9,8 +9,10 @@ use Rattle.std.proofs.lemmas.List.{map-append}
 use Rattle.std.proofs.lemmas.Map.Keys.{IsDistinct-push}
 use Rattle.gs_grammar.specs.Machine.{run}
 use Rattle.gs_grammar.proofs.Runs.{begins, run-nil, run-ok}
+use Rattle.gs_drive.specs.declared.machine.Fault.{Fault}
+use Rattle.gs_verilog.specs.declared.error.Rule.{Rule}
 use Rattle.gs_verilog.specs.Circuit.{Circuit, NamesDiffer, PinsDiffer, port_net, inst_name, link_pin}
-use Rattle.gs_verilog.specs.Machine.{State, Fault, Twice, step, no_rule, named_before, arrived, next, class, with_port, with_inst, with_link, connected, declared, has_port, has_inst, has_pin, last_has}
+use Rattle.gs_verilog.specs.Machine.{State, step, no_rule, named_before, arrived, next, class, with_port, with_inst, with_link, connected, declared, has_port, has_inst, has_pin, last_has}
 use Rattle.gs_verilog.specs.Text.{number}
 use Rattle.gs_verilog.specs.Token.{Token}
 use Rattle.gs_verilog.specs.declared.machine.Class.{Class}
@@ -141,10 +143,10 @@ link_back c pin text h =
     let k = pins_back c.insts l h.pins in
     (record { directions = h.directions; insts = subst (IsDistinct bytes_eq) (same_names c.insts l) h.insts; pins = k.0 }, k.1)
 
-good_at : (x m : State) → ◌≡◌ {A = Result State Fault} (Ok x) (Ok m) → Good m → Good x
+good_at : (x m : State) → ◌≡◌ {A = Result State (Fault Rule)} (Ok x) (Ok m) → Good m → Good x
 good_at x m h g = let same : m ≡ x = cc in subst Good same g
 
-good_to : (x m : State) → ◌≡◌ {A = Result State Fault} (Ok x) (Ok m) → Good x → Good m
+good_to : (x m : State) → ◌≡◌ {A = Result State (Fault Rule)} (Ok x) (Ok m) → Good x → Good m
 good_to x m h g = let same : x ≡ m = cc in subst Good same g
 
 renamed : (c : Circuit) (text : List ℕ) → NamesDiffer (record c { name = text }) → NamesDiffer c
@@ -240,7 +242,7 @@ pub record Allowed (s m : State) (t : Token) : Type 0 where
 allowed_by : (o : Option Place) (s m : State) (text : List ℕ) (b : Bool) → named_before s.place s.circuit text ≡ b
     → arrived named_before o s text ≡ Ok m → (arrived no_rule o s text ≡ Ok m) × (named_before s.place s.circuit text ≡ false)
 allowed_by None s m text b e h = cc
-allowed_by (Some to) s m text true e h = let k : Err Twice ≡ Ok m = rw e at h in cc
+allowed_by (Some to) s m text true e h = let k : Err (Fault.Broken Rule.NamesDiffer) ≡ Ok m = rw e at h in cc
 allowed_by (Some to) s m text false e h = (rw e at h, e)
 
 pub allowed : (s m : State) (t : Token) → step named_before s t ≡ Ok m → Allowed s m t

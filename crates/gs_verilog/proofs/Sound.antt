@@ -4,8 +4,10 @@ use Rattle.std.proofs.Common.{◌≡◌, ℕ, List, [], ◌∷◌, ◌++◌, Non
 use Rattle.std.specs.List.{flat_map}
 use Rattle.gs_grammar.specs.Machine.{run}
 use Rattle.gs_grammar.proofs.Runs.{begins, run-nil}
+use Rattle.gs_drive.specs.declared.machine.Fault.{Fault}
+use Rattle.gs_verilog.specs.declared.error.Rule.{Rule}
 use Rattle.gs_verilog.specs.Circuit.{Circuit}
-use Rattle.gs_verilog.specs.Machine.{State, Fault, step, no_rule, arrived, next, class, start}
+use Rattle.gs_verilog.specs.Machine.{State, step, no_rule, arrived, next, class, start}
 use Rattle.gs_verilog.specs.Token.{Token, keyword, mark, IsName}
 use Rattle.gs_verilog.specs.Tree.{Declaration, Tree, Form, item, header, name_list, comma_name, connection_list}
 use Rattle.gs_verilog.specs.Tree.{Instance as Placed}
@@ -26,7 +28,7 @@ abbrev pub LeftAt : State → List Token → Circuit → Type 0
 LeftAt s ts e = Left s.place s.circuit s.cell s.pin ts e
 
 -- the state after an arrow is the one that the arrow gives
-back : (x m : State) (ts : List Token) (e : Circuit) → ◌≡◌ {A = Result State Fault} (Ok x) (Ok m) → LeftAt m ts e → LeftAt x ts e
+back : (x m : State) (ts : List Token) (e : Circuit) → ◌≡◌ {A = Result State (Fault Rule)} (Ok x) (Ok m) → LeftAt m ts e → LeftAt x ts e
 back x m ts e h r = let same : m ≡ x = cc in subst (λ s. LeftAt s ts e) same r
 
 after : (t : Token) (u : Token) (ts : List Token) (P : List Token → Type 0) → t ≡ u → P ts → After u (t ∷ ts) P

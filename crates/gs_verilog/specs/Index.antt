@@ -1,21 +1,23 @@
 -- The maps of the reader: where each name of the circuit so far is found.
 
-use Rattle.std.specs.Prelude.{◌≡◌, ℕ, ◌≤◌, ◌==◌, Bool, true, false, List, length, Option, None, Some, Result, Err, eqb, if◌then◌else◌}
+use Rattle.std.specs.Prelude.{◌≡◌, ℕ, ◌≤◌, ◌==◌, Bool, true, false, List, length, Option, None, Some, eqb, if◌then◌else◌}
 use Rattle.std.specs.BTreeSet.{contains}
 use Rattle.std.specs.List.{list_any}
 use Rattle.std.specs.Option.{is_some}
 use Rattle.std.specs.Ordering.{nat_cmp}
 use Rattle.std.specs.Str.{bytes_eq}
+use Rattle.gs_drive.specs.declared.machine.Fault.{Fault}
+use Rattle.gs_drive.specs.declared.machine.StepErr.{StepErr}
+use Rattle.gs_drive.specs.declared.refusal.Refusal.{Refusal}
 use Rattle.gs_verilog.specs.Circuit.{Circuit}
-use Rattle.gs_verilog.specs.Machine.{State, Fault, Bad, Twice, with_net, with_link, has_inst, last_has}
+use Rattle.gs_verilog.specs.Machine.{State, with_net, with_link, has_inst, last_has}
 use Rattle.gs_verilog.specs.Names.{HasBuckets, find}
 use Rattle.gs_verilog.specs.Text.{number}
 use Rattle.gs_verilog.specs.declared.build.Builder.{Builder}
 use Rattle.gs_verilog.specs.declared.nets.Nets.{Nets}
-use Rattle.gs_verilog.specs.declared.error.StepErr.{StepErr}
+use Rattle.gs_verilog.specs.declared.error.Rule.{Rule}
 use Rattle.gs_verilog.specs.declared.error.VerilogErr.{VerilogErr}
 use Rattle.gs_text.specs.declared.kinds.TextErr.{TextErr}
-use Rattle.gs_verilog.specs.declared.error.StepErr.TheVariants as fails
 use Rattle.gs_verilog.specs.declared.reader.Reader.{Reader}
 use Rattle.gs_verilog.specs.declared.parts.Port.{Port}
 
@@ -60,24 +62,17 @@ abbrev pub state_of : Reader → State
 state_of r = record { place = r.place; circuit = built r.built; cell = r.cell.now; pin = r.pin.now }
 
 -- a refusal where a rule refuses, or want of memory
-abbrev pub Refuses : Bool → StepErr → Type 0
-Refuses refused fails.Bad = ⊥
-Refuses refused fails.Twice = refused ≡ true
-Refuses refused fails.Mem = Unit {0}
+abbrev pub Refuses : Bool → StepErr Rule → Type 0
+Refuses refused (StepErr.Refused Fault.Bad) = ⊥
+Refuses refused (StepErr.Refused (Fault.Broken rule)) = refused ≡ true
+Refuses refused StepErr.Full = Unit {0}
 
--- the error is the fault of the step, or memory ran out
-abbrev pub StepFails : StepErr → Result State Fault → Type 0
-StepFails fails.Bad r = r ≡ Err Bad
-StepFails fails.Twice r = r ≡ Err Twice
-StepFails fails.Mem r = Unit {0}
-
--- the refusal of the text at a token
-abbrev pub refusal_of : ℕ → StepErr → VerilogErr
-refusal_of i fails.Bad = VerilogErr.BadPiece i
-refusal_of i fails.Twice = VerilogErr.TwoNames i
-refusal_of i fails.Mem = VerilogErr.Mem
-
--- the refusal of a text without pieces; other faults don't come in this style
-abbrev pub unread : TextErr → VerilogErr
-unread (TextErr.NotBuilt at) = VerilogErr.NotBuilt at
-unread _ = VerilogErr.Mem
+-- the netlist's refusal for the driver's
+abbrev pub refusal_of : Refusal Rule → VerilogErr
+refusal_of (Refusal.Text (TextErr.OpenString at)) = VerilogErr.OpenComment at
+refusal_of (Refusal.Text (TextErr.OpenComment at)) = VerilogErr.OpenComment at
+refusal_of (Refusal.Text TextErr.Mem) = VerilogErr.Mem
+refusal_of (Refusal.Bad i) = VerilogErr.BadPiece i
+refusal_of (Refusal.Broken i rule) = VerilogErr.TwoNames i
+refusal_of (Refusal.Early i) = VerilogErr.NoEnd i
+refusal_of Refusal.Mem = VerilogErr.Mem

@@ -1,17 +1,16 @@
--- The netlist's text read from left to right, as a function of the bytes: the circuit, or the first refusal.
--- Token by token a place in the form is kept, and the circuit so far. That it agrees with the relation is proved.
+-- The netlist's text read from left to right: token by token a place in the form is kept, and the circuit so far. That it
+-- agrees with the relation is proved.
 
-use Rattle.std.specs.Prelude.{◌≡◌, ◌⊎◌, ℕ, ◌-◌, Bool, true, false, List, [], ◌∷◌, ◌++◌, length, Option, None, Some, Result, Ok, Err, codes, if◌then◌else◌, eqb}
+use Rattle.std.specs.Prelude.{ℕ, Bool, true, false, List, [], ◌∷◌, ◌++◌, Option, None, Some, Result, Ok, Err, codes, if◌then◌else◌, eqb}
 use Rattle.std.specs.List.{list_any}
 use Rattle.std.specs.Str.{bytes_eq}
-use Rattle.gs_grammar.specs.Machine.{run}
+use Rattle.gs_drive.specs.declared.machine.Fault.{Fault}
 use Rattle.gs_text.specs.declared.kinds.Kind.{Kind}
 use Rattle.gs_text.specs.declared.kinds.Kind.TheVariants.{Word, Escaped, Text, Mark}
-use Rattle.gs_text.specs.declared.kinds.TextErr.{TextErr}
 use Rattle.gs_verilog.specs.Circuit.{Circuit}
 use Rattle.gs_verilog.specs.Text.{number}
-use Rattle.gs_verilog.specs.Token.{Token, tokens, begins_name}
-use Rattle.gs_verilog.specs.declared.error.VerilogErr.{VerilogErr}
+use Rattle.gs_verilog.specs.Token.{Token, begins_name}
+use Rattle.gs_verilog.specs.declared.error.Rule.{Rule}
 use Rattle.gs_verilog.specs.declared.machine.Class.{Class}
 use Rattle.gs_verilog.specs.declared.machine.Class.TheVariants.{Module, EndModule, Declares, Name, Open, Close, Comma, Dot, Semicolon, Other}
 use Rattle.gs_verilog.specs.declared.machine.Place.{Place}
@@ -126,10 +125,6 @@ pub record State : Type 0 where
   pub cell : List ℕ
   pub pin : List ℕ
 
-pub data Fault : Type 0 where
-  Bad : Fault
-  Twice : Fault
-
 abbrev pub empty : Circuit
 empty = record { name = []; ports = []; nets = []; insts = [] }
 
@@ -147,52 +142,33 @@ moved Net to c cell pin text = record { place = to; circuit = connected c pin te
 moved _ to c cell pin text = record { place = to; circuit = c; cell = cell; pin = pin }
 
 -- a rule says which text is refused at a place
-abbrev pub Rule : Type 0
-Rule = Place → Circuit → List ℕ → Bool
+abbrev pub NameRule : Type 0
+NameRule = Place → Circuit → List ℕ → Bool
 
 -- the form alone
-abbrev pub no_rule : Rule
+abbrev pub no_rule : NameRule
 no_rule place c text = false
 
 -- a direction twice, an instance twice, a pin twice in one instance
-abbrev pub named_before : Rule
+abbrev pub named_before : NameRule
 named_before (Names Input) c text = has_port c text
 named_before (Names Output) c text = has_port c text
 named_before Instance c text = has_inst c text
 named_before Pin c text = has_pin c text
 named_before _ c text = false
 
-abbrev pub arrived : Rule → Option Place → State → List ℕ → Result State Fault
-arrived rule None s text = Err Bad
+abbrev pub arrived : NameRule → Option Place → State → List ℕ → Result State (Fault Rule)
+arrived rule None s text = Err Fault.Bad
 arrived rule (Some to) s text =
-    if rule s.place s.circuit text then Err Twice else Ok (moved s.place to s.circuit s.cell s.pin text)
+    if rule s.place s.circuit text then Err (Fault.Broken Rule.NamesDiffer) else Ok (moved s.place to s.circuit s.cell s.pin text)
 
-abbrev pub step : Rule → State → Token → Result State Fault
+abbrev pub step : NameRule → State → Token → Result State (Fault Rule)
 step rule s t = arrived rule (next s.place (class t)) s t.text
 
-abbrev pub at_end : Place → Circuit → ℕ → Result Circuit VerilogErr
-at_end End c count = Ok c
-at_end _ c count = Err (VerilogErr.NoEnd count)
+-- what the tokens so far stand for, where they are a whole netlist
+abbrev pub end_at : Place → Circuit → Option Circuit
+end_at End c = Some c
+end_at _ c = None
 
--- what a run over so many tokens says
-abbrev pub ended : ℕ → Result State (Fault × List Token) → Result Circuit VerilogErr
-ended count (Ok s) = at_end s.place s.circuit count
-ended count (Err (Bad, rest)) = Err (VerilogErr.BadPiece (count - length rest))
-ended count (Err (Twice, rest)) = Err (VerilogErr.TwoNames (count - length rest))
-
--- the circuit of a list of tokens, or its first refusal
-abbrev pub reading : List Token → Result Circuit VerilogErr
-reading ts = ended (length ts) (run (step named_before) start ts)
-
-abbrev pub judged : Result (List Token) TextErr → Result Circuit VerilogErr
-judged (Ok ts) = reading ts
-judged (Err (TextErr.NotBuilt at)) = Err (VerilogErr.NotBuilt at)
-judged (Err _) = Err VerilogErr.Mem
-
--- the circuit of a text, or its first refusal
-abbrev pub outcome : List ℕ → Result Circuit VerilogErr
-outcome bytes = judged (tokens bytes)
-
--- the error is the outcome, or memory ran out
-abbrev pub Fails : VerilogErr → Result Circuit VerilogErr → Type 0
-Fails e r = (e ≡ VerilogErr.Mem) ⊎ (r ≡ Err e)
+abbrev pub end_of : State → Option Circuit
+end_of s = end_at s.place s.circuit

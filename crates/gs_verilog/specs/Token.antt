@@ -1,12 +1,10 @@
 -- Tokens of structural Verilog, after IEEE 1364-2005: what a piece of the text is, and the bytes that it stands for.
 
-use Rattle.std.specs.Prelude.{◌≡◌, ℕ, Bool, true, false, not, List, [], ◌∷◌, codes, ◌==◌, ◌||◌, ◌&&◌, nat_le, map, Result, Ok, Err}
+use Rattle.std.specs.Prelude.{◌≡◌, ℕ, Bool, true, false, not, List, [], ◌∷◌, codes, ◌==◌, ◌||◌, ◌&&◌, nat_le, Result}
 use Rattle.std.specs.Str.{bytes_eq}
-use Rattle.gs_text.specs.Cut.{pieces}
-use Rattle.gs_text.specs.Pieces.{text_of}
+use Rattle.gs_drive.specs.Tokens.{tokens as tokens_in}
 use Rattle.gs_text.specs.declared.kinds.Kind.{Kind}
 use Rattle.gs_text.specs.declared.kinds.Kind.TheVariants.{Word, Escaped, Text, Mark}
-use Rattle.gs_text.specs.declared.kinds.Piece.{Piece}
 use Rattle.gs_text.specs.declared.kinds.Style.TheVariants.{Verilog}
 use Rattle.gs_text.specs.declared.kinds.TextErr.{TextErr}
 
@@ -15,17 +13,12 @@ pub record Token : Type 0 where
   pub kind : Kind
   pub text : List ℕ
 
-abbrev pub token_of : List ℕ → Piece → Token
-token_of bytes p = record { kind = p.kind; text = text_of bytes p }
+abbrev pub token : Kind → List ℕ → (line : ℕ) → Token
+token kind text line = record { kind = kind; text = text }
 
--- the tokens of pieces, or why there are none
-abbrev pub tokens_from : List ℕ → Result (List Piece) TextErr → Result (List Token) TextErr
-tokens_from bytes (Ok ps) = Ok (map (token_of bytes) ps)
-tokens_from bytes (Err e) = Err e
-
--- the tokens of a text
+-- the tokens of a text, or why there are none
 abbrev pub tokens : List ℕ → Result (List Token) TextErr
-tokens bytes = tokens_from bytes (pieces Verilog bytes)
+tokens bytes = tokens_in token Verilog bytes
 
 abbrev pub keyword : List ℕ → Token
 keyword text = record { kind = Word; text = text }

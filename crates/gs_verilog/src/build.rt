@@ -5,13 +5,14 @@ ghost use Rattle.std.specs.Prelude.{◌≡◌, ◌<◌, ◌^◌, false, length, 
 ghost use Rattle.gs_verilog.specs.Index.{IsIndexed, Refuses, built, linked};
 ghost use Rattle.gs_verilog.specs.Machine.{connected, declared, empty, has_inst, has_pin, has_port, with_inst, with_link, with_port};
 ghost use Rattle.gs_verilog.specs.declared.machine.Role.{Role};
+ghost use Rattle.gs_drive.specs.declared.machine.StepErr.{StepErr};
 
-use crate::error::StepErr;
+use crate::error::{Stop, twice};
 use crate::names::NameMap;
 use crate::nets::Nets;
 use crate::parts::{Link, Links, Port, RawInst};
 use gs_text::Name;
-use std::alloc::Global;
+use std::alloc::{AllocError, Global};
 use std::collections::BTreeSet;
 
 /// The netlist so far. Names are found by maps that borrow the text.
@@ -31,10 +32,10 @@ pub struct Builder<'a> {
 }
 
 /// Puts a connection to the last instance.
-fn add_link(insts: &mut Vec<RawInst>, link: Link) -> Result<(), StepErr>
+fn add_link(insts: &mut Vec<RawInst>, link: Link) -> Result<(), Stop>
     requires { 0 < length insts.old.items }
     ensures ok { IfOk result (λ _. insts.new.items ≡ with_link insts.old.items link) }
-    ensures err { IfErr result (λ e. e ≡ StepErr.Mem) }
+    ensures err { IfErr result (λ e. e ≡ StepErr.Full) }
 {
     let count = insts.len();
     let last = &mut insts[count - 1];
@@ -45,11 +46,10 @@ fn add_link(insts: &mut Vec<RawInst>, link: Link) -> Result<(), StepErr>
 impl<'a> Builder<'a> {
     /// The netlist without a name, a net or an instance. The names of nets will be found in `count` buckets,
     /// and those of instances in as many.
-    pub fn new(alloc: Global, count: usize) -> Result<Builder<'a>, StepErr>
+    pub fn new(alloc: Global, count: usize) -> Result<Builder<'a>, AllocError>
         requires { 0 < count }
         ensures indexed { IfOk result IsIndexed }
         ensures value { IfOk result (λ b. built b ≡ empty) }
-        ensures err { IfErr result (λ e. e ≡ StepErr.Mem) }
     {
         let nets = Nets::new(alloc, count)?;
         let named = NameMap::new(alloc, count)?;
@@ -66,7 +66,7 @@ impl<'a> Builder<'a> {
     }
 
     /// A name gets a direction, which it may not have already.
-    pub fn direct(&mut self, alloc: Global, input: bool, name: &'a [u8]) -> Result<(), StepErr>
+    pub fn direct(&mut self, alloc: Global, input: bool, name: &'a [u8]) -> Result<(), Stop>
         requires indexed { IsIndexed self.old }
         requires room { length self.old.nets.names.items < 2 ^ 32 }
         ensures indexed { IfOk result (λ _. IsIndexed self.new) }
@@ -76,26 +76,26 @@ impl<'a> Builder<'a> {
     {
         let net = self.nets.put(alloc, name)?;
         if !self.directed.insert(net)? {
-            return Err(StepErr::Twice);
+            return Err(twice());
         }
         self.ports.push(Port { net, input })?;
         Ok(())
     }
 
     /// A name is declared as a wire.
-    pub fn wire(&mut self, alloc: Global, name: &'a [u8]) -> Result<(), StepErr>
+    pub fn wire(&mut self, alloc: Global, name: &'a [u8]) -> Result<(), Stop>
         requires indexed { IsIndexed self.old }
         requires room { length self.old.nets.names.items < 2 ^ 32 }
         ensures indexed { IfOk result (λ _. IsIndexed self.new) }
         ensures ok { IfOk result (λ _. built self.new ≡ declared Role.Wire (built self.old) name.now) }
-        ensures err { IfErr result (λ e. e ≡ StepErr.Mem) }
+        ensures err { IfErr result (λ e. e ≡ StepErr.Full) }
     {
         self.nets.put(alloc, name)?;
         Ok(())
     }
 
     /// An instance begins, whose name no earlier instance may have.
-    pub fn begin(&mut self, alloc: Global, cell: &[u8], name: &'a [u8]) -> Result<(), StepErr>
+    pub fn begin(&mut self, alloc: Global, cell: &[u8], name: &'a [u8]) -> Result<(), Stop>
         requires indexed { IsIndexed self.old }
         requires few { length self.old.insts.items < 2 ^ 32 }
         ensures indexed { IfOk result (λ _. IsIndexed self.new) }
@@ -105,7 +105,7 @@ impl<'a> Builder<'a> {
     {
         let count = self.insts.len() as u32;
         if self.named.insert(name, count)?.is_some() {
-            return Err(StepErr::Twice);
+            return Err(twice());
         }
         let inst = RawInst {
             name: Name::copy_of(alloc, name)?,
@@ -128,12 +128,12 @@ impl<'a> Builder<'a> {
     }
 
     /// The last instance, where there is one, gets a pin at a net's number.
-    fn link(&mut self, alloc: Global, pin: &'a [u8], net: u32) -> Result<(), StepErr>
+    fn link(&mut self, alloc: Global, pin: &'a [u8], net: u32) -> Result<(), Stop>
         requires indexed { IsIndexed self.old }
         requires few { length self.old.insts.items < 2 ^ 32 }
         ensures indexed { IfOk result (λ _. IsIndexed self.new) }
         ensures ok { IfOk result (λ _. built self.new ≡ linked (built self.old) pin.now net) }
-        ensures err { IfErr result (λ e. e ≡ StepErr.Mem) }
+        ensures err { IfErr result (λ e. e ≡ StepErr.Full) }
     {
         let count = self.insts.len();
         if count == 0 {
@@ -146,13 +146,13 @@ impl<'a> Builder<'a> {
     }
 
     /// The last instance gets a connection.
-    pub fn connect(&mut self, alloc: Global, pin: &'a [u8], net: &'a [u8]) -> Result<(), StepErr>
+    pub fn connect(&mut self, alloc: Global, pin: &'a [u8], net: &'a [u8]) -> Result<(), Stop>
         requires indexed { IsIndexed self.old }
         requires room { length self.old.nets.names.items < 2 ^ 32 }
         requires few { length self.old.insts.items < 2 ^ 32 }
         ensures indexed { IfOk result (λ _. IsIndexed self.new) }
         ensures ok { IfOk result (λ _. built self.new ≡ connected (built self.old) pin.now net.now) }
-        ensures err { IfErr result (λ e. e ≡ StepErr.Mem) }
+        ensures err { IfErr result (λ e. e ≡ StepErr.Full) }
     {
         let number = self.nets.put(alloc, net)?;
         self.link(alloc, pin, number)?;

@@ -8,9 +8,10 @@ ghost use Rattle.std.specs.Map.{update};
 ghost use Rattle.std.specs.Option.{unwrap_or};
 ghost use Rattle.std.specs.Str.{bytes_eq};
 ghost use Rattle.gs_verilog.specs.Names.{HasBuckets, find, hash_of};
+ghost use Rattle.gs_drive.specs.declared.machine.StepErr.{StepErr};
 
-use crate::error::StepErr;
-use std::alloc::Global;
+use crate::error::Stop;
+use std::alloc::{AllocError, Global};
 use std::collections::BTreeMap;
 
 /// Some of the names: each with its hash before it, so that most comparisons don't look at the text.
@@ -35,10 +36,9 @@ fn hash_of(name: &[u8]) -> u64
 }
 
 /// `count` empty buckets.
-fn empty_buckets<'a>(alloc: Global, count: usize) -> Result<Vec<Bucket<'a>>, StepErr>
+fn empty_buckets<'a>(alloc: Global, count: usize) -> Result<Vec<Bucket<'a>>, AllocError>
     ensures count { IfOk result (λ buckets. length buckets.items ≡ count) }
     ensures empty { IfOk result (λ buckets. All IsEmpty buckets.items) }
-    ensures err { IfErr result (λ e. e ≡ StepErr.Mem) }
 {
     let mut buckets = Vec::with_capacity(alloc, count)?;
     for _ in 0..count {
@@ -52,10 +52,10 @@ fn get_or_insert<K: Ord + Drop>(
     map: &mut BTreeMap<K, u32>,
     key: K,
     number: u32,
-) -> Result<u32, StepErr>
+) -> Result<u32, Stop>
     ensures number { IfOk result (λ n. n ≡ unwrap_or (get K.cmp map.old key) number) }
     ensures updates { IfOk result (λ n. (q : K) → get K.cmp map.new q ≡ cond (is_at (K.cmp key) q) (Some n) (get K.cmp map.old q)) }
-    ensures err { IfErr result (λ e. e ≡ StepErr.Mem) }
+    ensures err { IfErr result (λ e. e ≡ StepErr.Full) }
 {
     let found = map.entry(key)?.or_insert(number);
     Ok(*found)
@@ -63,11 +63,10 @@ fn get_or_insert<K: Ord + Drop>(
 
 impl<'a> NameMap<'a> {
     /// No names, in `count` buckets.
-    pub fn new(alloc: Global, count: usize) -> Result<NameMap<'a>, StepErr>
+    pub fn new(alloc: Global, count: usize) -> Result<NameMap<'a>, AllocError>
         requires { 0 < count }
         ensures buckets { IfOk result HasBuckets }
         ensures empty { IfOk result (λ m. (q : List ℕ) → find m q ≡ None) }
-        ensures err { IfErr result (λ e. e ≡ StepErr.Mem) }
     {
         let buckets = empty_buckets(alloc, count)?;
         Ok(NameMap { buckets })
@@ -93,12 +92,12 @@ impl<'a> NameMap<'a> {
     }
 
     /// Gives a name a number, and answers the one that it had.
-    pub fn insert(&mut self, name: &'a [u8], number: u32) -> Result<Option<u32>, StepErr>
+    pub fn insert(&mut self, name: &'a [u8], number: u32) -> Result<Option<u32>, Stop>
         requires { HasBuckets self.old }
         ensures buckets { OnOk result (HasBuckets self.new) }
         ensures old { IfOk result (λ old. old ≡ find self.old name.now) }
         ensures updates { OnOk result ((q : List ℕ) → find self.new q ≡ update bytes_eq (find self.old) name.now (Some number) q) }
-        ensures err { IfErr result (λ e. e ≡ StepErr.Mem) }
+        ensures err { IfErr result (λ e. e ≡ StepErr.Full) }
     {
         let hash = hash_of(name);
         let place = self.place(hash);
@@ -108,12 +107,12 @@ impl<'a> NameMap<'a> {
     }
 
     /// The number of a name, which gets this one where it had none.
-    pub fn get_or_insert(&mut self, name: &'a [u8], number: u32) -> Result<u32, StepErr>
+    pub fn get_or_insert(&mut self, name: &'a [u8], number: u32) -> Result<u32, Stop>
         requires { HasBuckets self.old }
         ensures buckets { OnOk result (HasBuckets self.new) }
         ensures number { IfOk result (λ n. n ≡ unwrap_or (find self.old name.now) number) }
         ensures updates { IfOk result (λ n. (q : List ℕ) → find self.new q ≡ update bytes_eq (find self.old) name.now (Some n) q) }
-        ensures err { IfErr result (λ e. e ≡ StepErr.Mem) }
+        ensures err { IfErr result (λ e. e ≡ StepErr.Full) }
     {
         let hash = hash_of(name);
         let place = self.place(hash);

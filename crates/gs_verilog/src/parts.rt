@@ -1,75 +1,8 @@
 //! What a netlist is made of.
 #![tactic(auto)]
 
-ghost use Rattle.std.specs.Prelude.{◌≡◌, [], ◌∷◌, ◌++◌, IfOk, length};
-
+use gs_list::Rows;
 use gs_text::Name;
-use std::alloc::{AllocFailed, Global};
-use std::marker::Model;
-
-/// A list that owns its elements. Contracts see the list.
-#[derive(Debug, Drop)]
-pub struct Rows<T> {
-    items: Vec<T>,
-}
-
-impl<T> Model for Rows<T> {
-    ghost use Rattle.std.specs.Prelude.{List};
-
-    ghost Value = { List T };
-
-    ghost view = { λ r. r.items.items };
-}
-
-impl<T> Rows<T> {
-    /// The list without an element. It takes no memory.
-    pub fn empty(alloc: Global) -> Rows<T>
-        ensures { result ≡ [] }
-    {
-        Rows {
-            items: Vec::new(alloc),
-        }
-    }
-
-    /// These elements. It takes no memory.
-    pub fn from_vec(items: Vec<T>) -> Rows<T>
-        ensures { result ≡ items.items }
-    {
-        Rows { items }
-    }
-
-    /// The elements as a `Vec`. It takes no memory.
-    pub fn into_vec(self) -> Vec<T>
-        ensures { result.items ≡ self }
-    {
-        let Rows { items } = self;
-        items
-    }
-
-    /// The elements, in order.
-    pub fn as_slice(&self) -> &[T]
-        ensures { result.now ≡ self.now }
-    {
-        self.items.as_slice()
-    }
-
-    /// How many elements there are.
-    pub fn len(&self) -> usize
-        ensures { result ≡ length self.now }
-    {
-        self.items.len()
-    }
-}
-
-impl<T: Drop> Rows<T> {
-    /// Puts an element last.
-    pub fn push(&mut self, item: T) -> Result<(), AllocFailed<T>>
-        ensures { IfOk result (λ _. self.new ≡ self.old ++ item ∷ []) }
-    {
-        self.items.push(item)?;
-        Ok(())
-    }
-}
 
 /// A name that a declaration gives a direction.
 #[derive(Clone, Copy, Debug, PartialEq, Eq)]

@@ -1,20 +1,23 @@
 //! The reader: a place in the form, and the netlist so far.
 #![tactic(auto)]
 
-ghost use Rattle.std.specs.Prelude.{◌≡◌, true, false, ◌<◌, ◌≤◌, ◌+◌, ◌^◌, length, IfOk, IfErr, MatchResult, Ok, Some};
-ghost use Rattle.gs_text.specs.declared.kinds.Kind.{Kind};
+ghost use Rattle.std.specs.Prelude.{◌≡◌, true, false, ◌<◌, ◌^◌, length, IfOk, IfErr, Ok, Some};
+ghost use Rattle.gs_drive.specs.declared.machine.Fault.{Fault};
+ghost use Rattle.gs_drive.specs.declared.machine.StepErr.{StepErr};
+ghost use Rattle.gs_drive.specs.Machine.{StepFails};
 ghost use Rattle.gs_verilog.specs.Circuit.{IsNetlist};
 ghost use Rattle.gs_verilog.specs.declared.machine.Place.{Place};
-ghost use Rattle.gs_verilog.specs.Index.{IsIndexed, StepFails, built, state_of};
-ghost use Rattle.gs_verilog.specs.Machine.{Fails, arrived, at_end, has_pin, named_before, start, step};
+ghost use Rattle.gs_verilog.specs.Index.{IsIndexed, built, state_of};
+ghost use Rattle.gs_verilog.specs.declared.error.Rule.{Rule};
+ghost use Rattle.gs_verilog.specs.Machine.{arrived, end_of, has_pin, named_before, start};
 
 use crate::build::Builder;
-use crate::error::{StepErr, VerilogErr};
-use crate::machine::{Place, Role, class_of, next};
+use crate::error::{Stop, twice};
+use crate::machine::{Place, Role};
 use crate::netlist::Netlist;
 use crate::parts::{Ports, RawInsts};
-use gs_text::{Kind, Name, Names};
-use std::alloc::Global;
+use gs_text::{Name, Names};
+use std::alloc::{AllocError, Global};
 
 /// A reader of tokens.
 #[derive(Drop)]
@@ -30,11 +33,10 @@ pub struct Reader<'a> {
 impl<'a> Reader<'a> {
     /// A reader before the first token. The names of nets will be found in `count` buckets, and those of instances
     /// in as many.
-    pub fn new(alloc: Global, count: usize) -> Result<Reader<'a>, StepErr>
+    pub fn new(alloc: Global, count: usize) -> Result<Reader<'a>, AllocError>
         requires { 0 < count }
         ensures indexed { IfOk result (λ r. IsIndexed r.built) }
         ensures value { IfOk result (λ r. state_of r ≡ start) }
-        ensures err { IfErr result (λ e. e ≡ StepErr.Mem) }
     {
         let built = Builder::new(alloc, count)?;
         Ok(Reader {
@@ -46,22 +48,22 @@ impl<'a> Reader<'a> {
     }
 
     /// Keeps a pin's name, which the last instance may not have.
-    fn keep_pin(&mut self, text: &'a [u8]) -> Result<(), StepErr>
+    fn keep_pin(&mut self, text: &'a [u8]) -> Result<(), Stop>
         requires indexed { IsIndexed self.old.built }
         ensures free { IfOk result (λ _. has_pin (built self.old.built) text.now ≡ false) }
         ensures ok { IfOk result (λ _. state_of self.new ≡ record (state_of self.old) { pin = text.now }) }
         ensures built { self.new.built ≡ self.old.built }
-        ensures err { IfErr result (λ e. (e ≡ StepErr.Twice) × (has_pin (built self.old.built) text.now ≡ true)) }
+        ensures err { IfErr result (λ e. (e ≡ StepErr.Refused (Fault.Broken Rule.NamesDiffer)) × (has_pin (built self.old.built) text.now ≡ true)) }
     {
         if self.built.has_pin(text) {
-            return Err(StepErr::Twice);
+            return Err(twice());
         }
         self.pin = text;
         Ok(())
     }
 
     /// Keeps what a token that the form allows tells at its place.
-    fn keep(&mut self, alloc: Global, text: &'a [u8]) -> Result<(), StepErr>
+    fn keep(&mut self, alloc: Global, text: &'a [u8]) -> Result<(), Stop>
         requires indexed { IsIndexed self.old.built }
         requires room { length self.old.built.nets.names.items < 2 ^ 32 }
         requires few { length self.old.built.insts.items < 2 ^ 32 }
@@ -103,7 +105,7 @@ impl<'a> Reader<'a> {
     }
 
     /// Takes a token that the form allows, and goes on to the next place.
-    fn enter(&mut self, alloc: Global, to: Place, text: &'a [u8]) -> Result<(), StepErr>
+    pub fn enter(&mut self, alloc: Global, to: Place, text: &'a [u8]) -> Result<(), Stop>
         requires indexed { IsIndexed self.old.built }
         requires room { length self.old.built.nets.names.items < 2 ^ 32 }
         requires few { length self.old.built.insts.items < 2 ^ 32 }
@@ -116,30 +118,14 @@ impl<'a> Reader<'a> {
         Ok(())
     }
 
-    /// Takes a token.
-    pub fn take(&mut self, alloc: Global, kind: Kind, text: &'a [u8]) -> Result<(), StepErr>
-        requires indexed { IsIndexed self.old.built }
-        requires room { length self.old.built.nets.names.items < 2 ^ 32 }
-        requires few { length self.old.built.insts.items < 2 ^ 32 }
-        ensures indexed { IfOk result (λ _. IsIndexed self.new.built) }
-        ensures ok { IfOk result (λ _. step named_before (state_of self.old) (record { kind = kind; text = text.now }) ≡ Ok (state_of self.new)) }
-        ensures err { IfErr result (λ e. StepFails e (step named_before (state_of self.old) (record { kind = kind; text = text.now }))) }
-    {
-        match next(self.place, class_of(kind, text)) {
-            Some(to) => self.enter(alloc, to, text),
-            None => Err(StepErr::Bad),
-        }
-    }
-
-    /// The netlist, where the tokens ended with it; `count` is their number.
-    pub fn finish(self, alloc: Global, count: u32) -> Result<Netlist, VerilogErr>
+    /// The netlist, where the tokens so far are a whole one.
+    pub fn into_netlist(self, alloc: Global) -> Result<Option<Netlist>, AllocError>
         requires { IsNetlist (built self.built) }
-        ensures value { IfOk result (λ n. n ≡ built self.entry.built) }
-        ensures answer { MatchResult result (λ n. at_end self.entry.place (built self.entry.built) count ≡ Ok n) (λ e. Fails e (at_end self.entry.place (built self.entry.built) count)) }
+        ensures { IfOk result (λ found. found ≡ end_of (state_of self.entry)) }
     {
         let Reader { place, built, .. } = self;
         if place != Place::End {
-            return Err(VerilogErr::NoEnd { i: count });
+            return Ok(None);
         }
         let Builder {
             name,
@@ -148,11 +134,11 @@ impl<'a> Reader<'a> {
             insts,
             ..
         } = built;
-        Ok(Netlist {
+        Ok(Some(Netlist {
             name: Name::copy_of(alloc, name)?,
             ports: Ports::from_vec(ports),
             nets: Names::from_vec(nets.names),
             insts: RawInsts::from_vec(insts),
-        })
+        }))
     }
 }

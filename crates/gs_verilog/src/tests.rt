@@ -74,7 +74,11 @@ fn refuses_at_the_exact_piece(rt: HostRuntime) {
             "module m; I g (.a(x), .a(y)); endmodule",
             VerilogErr::TwoNames { i: 13 },
         ),
-        ("module m; // a comment", VerilogErr::NotBuilt { at: 10 }),
+        ("module m; b /* a /", VerilogErr::OpenComment { at: 12 }),
+        (
+            "module m; \\input ; endmodule",
+            VerilogErr::BadPiece { i: 4 },
+        ),
     ] {
         let got = read(rt.alloc(), text).err();
         assert_eq!(rt; got, Some(want), "at {text}");
@@ -92,6 +96,10 @@ fn reads_worked_netlists(rt: HostRuntime) {
         (
             "module m; N g (.b(q), .o(p)); N h (.b(q)); F k (); input q; wire p, q, n[0]; endmodule",
             "m >0 q p n[0]\ng N b0 o1\nh N b0\nk F",
+        ),
+        (
+            "module m; // one name, written twice\nN g (.a(\\n[0] ), .b(n[0])); /* c */ wire \\a+b ; endmodule",
+            "m n[0] a+b\ng N a0 b0",
         ),
     ] {
         let got = match read(rt.alloc(), text) {

@@ -3,7 +3,8 @@ ghost use Rattle.std.specs.Prelude.{◌≡◌, ℕ, ◌+◌, ◌<◌, ◌≤◌,
 ghost use Rattle.gs_quantity.specs.Lookup.{at, segment_of, held_query, IsAxis};
 ghost use Rattle.gs_quantity.specs.Spots.{spot_between, spot_of, IsSpot};
 
-use crate::lookup::micros::Micros;
+use crate::limits::{RANGE_LIMIT, TABLE_LIMIT};
+use crate::lookup::micros::{Micros, point};
 use crate::micro::Micro;
 
 /// The two points about a query, by their places, and the query's place between them: `after` is from the query to the
@@ -19,13 +20,15 @@ pub struct Spot {
 }
 
 /// The query, held to 0 .. 2^36 millionths.
+#[inline]
 pub fn hold_query(query: Micro) -> Micro
     ensures value { result ≡ held_query query }
-    ensures small { nat_abs result ≤ 2 ^ 36 }
+    ensures small { nat_abs result ≤ RANGE_LIMIT }
 {
-    Micro(query.0.clamp(0, 1 << 36))
+    Micro(query.0.clamp(0, RANGE_LIMIT as i64))
 }
 
+#[inline]
 fn is_above(point: Micro, query: Micro) -> bool
     ensures { result ≡ int_lt query point }
 {
@@ -33,9 +36,10 @@ fn is_above(point: Micro, query: Micro) -> bool
 }
 
 // The difference of two quantities.
+#[inline]
 fn minus(a: Micro, b: Micro) -> Micro
-    requires left { nat_abs a ≤ 2 ^ 36 }
-    requires right { nat_abs b ≤ 2 ^ 36 }
+    requires left { nat_abs a ≤ RANGE_LIMIT }
+    requires right { nat_abs b ≤ RANGE_LIMIT }
     ensures { result ≡ a -ℤ b }
 {
     Micro(a.0 - b.0)
@@ -50,7 +54,7 @@ fn segment(points: &Micros, query: Micro) -> usize
     let last = points.len().saturating_sub(2);
     let mut place = 0;
     while place < last {
-        if is_above(points.at(place + 1), query) {
+        if is_above(point(points, place + 1), query) {
             break;
         }
         place += 1;
@@ -58,11 +62,12 @@ fn segment(points: &Micros, query: Micro) -> usize
     place
 }
 
+#[inline]
 fn between(place: usize, low: Micro, high: Micro, query: Micro) -> Spot
     requires place { place < 64 }
-    requires low { nat_abs low ≤ 2 ^ 34 }
-    requires high { nat_abs high ≤ 2 ^ 34 }
-    requires query { nat_abs query ≤ 2 ^ 36 }
+    requires low { nat_abs low ≤ TABLE_LIMIT }
+    requires high { nat_abs high ≤ TABLE_LIMIT }
+    requires query { nat_abs query ≤ RANGE_LIMIT }
     ensures { result ≡ spot_between place low high query }
 {
     Spot {
@@ -75,9 +80,10 @@ fn between(place: usize, low: Micro, high: Micro, query: Micro) -> Spot
 }
 
 /// Where a query falls on an axis.
+#[inline]
 pub fn find_spot(points: &Micros, query: Micro) -> Spot
     requires axis { IsAxis points.now }
-    requires query { nat_abs query ≤ 2 ^ 36 }
+    requires query { nat_abs query ≤ RANGE_LIMIT }
     ensures value { result ≡ spot_of points.now query }
     ensures small { IsSpot (length points.now) result }
 {
@@ -91,5 +97,5 @@ pub fn find_spot(points: &Micros, query: Micro) -> Spot
         };
     }
     let place = segment(points, query);
-    between(place, points.at(place), points.at(place + 1), query)
+    between(place, point(points, place), point(points, place + 1), query)
 }

@@ -2,7 +2,8 @@
 ghost use Rattle.std.specs.Prelude.{◌≡◌, ◌+◌, ◌*◌, ◌<◌, ◌≤◌, Bool, length, Option, IfSome};
 ghost use Rattle.gs_quantity.specs.TableFault.{falls, is_wide, first_place, bad_axis, bad_shape, table_fault};
 
-use crate::lookup::micros::Micros;
+use crate::limits::TABLE_LIMIT;
+use crate::lookup::micros::{Micros, point};
 
 /// Why lists are no table. Places are counted from 0 through the slew points, then on through the load points, then on
 /// through the values.
@@ -16,20 +17,18 @@ pub enum TableErr {
     TooWide { i: u32 },
 }
 
-const LIMIT: u64 = 17_179_869_184;
-
 fn is_fall(points: &Micros, place: usize) -> bool
     requires { place < length points.now }
     ensures { result ≡ falls points.now place }
 {
-    place > 0 && points.at(place).0 <= points.at(place - 1).0
+    place > 0 && point(points, place).0 <= point(points, place - 1).0
 }
 
 fn is_wide_at(values: &Micros, place: usize) -> bool
     requires { place < length values.now }
     ensures { result ≡ is_wide values.now place }
 {
-    values.at(place).0.unsigned_abs() >= LIMIT
+    point(values, place).0.unsigned_abs() >= TABLE_LIMIT
 }
 
 fn first_fall(points: &Micros) -> Option<usize>

@@ -4,20 +4,22 @@ ghost use Rattle.gs_quantity.specs.Lookup.{at, corner_of, held_query, held_in, l
 ghost use Rattle.gs_quantity.specs.Spots.{mix_of, value_at, IsSpot};
 ghost use Rattle.gs_quantity.specs.TableFault.{table_fault, IsTableFault};
 
+use crate::limits::{RANGE_LIMIT, TABLE_LIMIT};
 use crate::lookup::axis::{Spot, find_spot, hold_query};
 use crate::lookup::fault::{TableErr, fault};
-use crate::lookup::micros::Micros;
+use crate::lookup::micros::{Micros, point};
 use crate::lookup::rounding::nearest;
 use crate::lookup::table::Table;
 use crate::lookup::wide::{Wide, product};
 use crate::micro::Micro;
 
 // Both values, each weighed by the distance to the other's point.
+#[inline]
 fn mix(spot: &Spot, low: Micro, high: Micro) -> Wide
     requires after { nat_abs spot.now.after ≤ 2 ^ 37 }
     requires before { nat_abs spot.now.before ≤ 2 ^ 37 }
-    requires low { nat_abs low < 2 ^ 34 }
-    requires high { nat_abs high < 2 ^ 34 }
+    requires low { nat_abs low < TABLE_LIMIT }
+    requires high { nat_abs high < TABLE_LIMIT }
     ensures value { result ≡ mix_of spot.now low high }
     ensures small { nat_abs result ≤ 2 ^ 75 }
 {
@@ -25,6 +27,7 @@ fn mix(spot: &Spot, low: Micro, high: Micro) -> Wide
 }
 
 // The same of two mixes.
+#[inline]
 fn mix_wide(spot: &Spot, low: Wide, high: Wide) -> Wide
     requires after { nat_abs spot.now.after ≤ 2 ^ 37 }
     requires before { nat_abs spot.now.before ≤ 2 ^ 37 }
@@ -37,12 +40,13 @@ fn mix_wide(spot: &Spot, low: Wide, high: Wide) -> Wide
 }
 
 // A value held within the range of delays, or of slews.
+#[inline]
 fn hold(value: Wide, signed: bool) -> Micro
-    ensures value { result ≡ held_in (least_of signed) (pos 68719476736) value }
-    ensures small { nat_abs result ≤ 68719476736 }
+    ensures value { result ≡ held_in (least_of signed) (pos RANGE_LIMIT) value }
+    ensures small { nat_abs result ≤ RANGE_LIMIT }
 {
-    let least = if signed { -(1i128 << 36) } else { 0 };
-    Micro(value.0.clamp(least, 1 << 36) as i64)
+    let least = if signed { -(RANGE_LIMIT as i128) } else { 0 };
+    Micro(value.0.clamp(least, RANGE_LIMIT as i128) as i64)
 }
 
 fn make(xs: Micros, ys: Micros, zs: Micros) -> Table
@@ -63,7 +67,11 @@ impl Table {
         ensures ys { IfOk result (λ t. t.ys ≡ ys.items) }
         ensures zs { IfOk result (λ t. t.zs ≡ zs.items) }
     {
-        let (xs, ys, zs) = (Micros::new(xs), Micros::new(ys), Micros::new(zs));
+        let (xs, ys, zs) = (
+            Micros::from_vec(xs),
+            Micros::from_vec(ys),
+            Micros::from_vec(zs),
+        );
         match fault(&xs, &ys, &zs) {
             Some(error) => Err(error),
             None => Ok(make(xs, ys, zs)),
@@ -71,15 +79,17 @@ impl Table {
     }
 
     // The value at a slew point and a load point.
+    #[inline]
     fn corner(&self, slew: usize, load: usize) -> Micro
         requires slew { slew < length self.now.xs }
         requires load { load < length self.now.ys }
         ensures value { result ≡ corner_of self.now.zs (length self.now.ys) slew load }
-        ensures small { nat_abs result < 2 ^ 34 }
+        ensures small { nat_abs result < TABLE_LIMIT }
     {
-        self.zs.at(slew * self.ys.len() + load)
+        point(&self.zs, slew * self.ys.len() + load)
     }
 
+    #[inline]
     fn value(&self, slew: &Spot, load: &Spot) -> Wide
         requires slew { IsSpot (length self.now.xs) slew.now }
         requires load { IsSpot (length self.now.ys) load.now }
@@ -99,9 +109,10 @@ impl Table {
     }
 
     // The exact value at a query, rounded.
+    #[inline]
     fn rounded(&self, slew: Micro, load: Micro) -> Wide
-        requires slew { nat_abs slew ≤ 2 ^ 36 }
-        requires load { nat_abs load ≤ 2 ^ 36 }
+        requires slew { nat_abs slew ≤ RANGE_LIMIT }
+        requires load { nat_abs load ≤ RANGE_LIMIT }
         ensures value { result ≡ rounded_of self.now.xs self.now.ys self.now.zs slew load }
         ensures nearest { IsNearestUp (numerator_of self.now.xs self.now.ys self.now.zs slew load) (denominator_of self.now.xs self.now.ys slew load) result }
     {
@@ -114,10 +125,11 @@ impl Table {
     /// direction: a query below 0 counts as 0 and one above 2^36 as 2^36, the exact fraction is rounded once, ties upward,
     /// and then held within -2^36 .. 2^36 where the value is `signed` (a delay), else within 0 .. 2^36 (a slew). On an axis
     /// of one point the value doesn't depend on that axis. Takes no memory.
+    #[inline]
     pub fn look(&self, slew: Micro, load: Micro, signed: bool) -> Micro
         ensures value { result ≡ look_of self.now.xs self.now.ys self.now.zs slew load signed }
         ensures exact { IsLook self.now.xs self.now.ys self.now.zs slew load signed result }
-        ensures small { nat_abs result ≤ 68719476736 }
+        ensures small { nat_abs result ≤ RANGE_LIMIT }
     {
         hold(self.rounded(hold_query(slew), hold_query(load)), signed)
     }

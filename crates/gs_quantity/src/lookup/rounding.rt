@@ -14,6 +14,7 @@ const MIDDLE: u128 = 1 << 95;
 const SHIFT: u128 = 1 << 32;
 
 // About the quotient, whole and below 2^40.
+#[inline]
 fn guess(top: u128, bottom: u64) -> u64
     requires { top < 2 ^ 95 }
     ensures { result < 2 ^ 40 }
@@ -22,6 +23,7 @@ fn guess(top: u128, bottom: u64) -> u64
     saturating_f64_to_i64(about * 4_294_967_296.0).clamp(0, (1 << 40) - 1) as u64
 }
 
+#[inline]
 fn is_quotient(top: u128, bottom: u64, whole: u64) -> bool
     requires { whole < 2 ^ 40 }
     ensures { IsTrue result ↔ ((whole * bottom ≤ top) × (top < whole * bottom + bottom)) }
@@ -30,6 +32,7 @@ fn is_quotient(top: u128, bottom: u64, whole: u64) -> bool
     least <= top && top < least + bottom as u128
 }
 
+#[inline]
 fn quotient(top: u128, bottom: u64) -> u128
     requires { 0 < bottom }
     ensures value { result ≡ top / bottom }
@@ -48,6 +51,7 @@ fn quotient(top: u128, bottom: u64) -> u128
 }
 
 // The quotient, rounded down.
+#[inline]
 fn floor(top: Wide, bottom: Wide) -> Wide
     requires some { pos 0 <ℤ bottom }
     requires top { nat_abs top ≤ 2 ^ 120 }
@@ -61,6 +65,7 @@ fn floor(top: Wide, bottom: Wide) -> Wide
 }
 
 /// The greatest whole number that is at most one half above the fraction.
+#[inline]
 pub fn nearest(over: Wide, under: Wide) -> Wide
     requires over { nat_abs over ≤ 2 ^ 114 }
     requires some { pos 0 <ℤ under }

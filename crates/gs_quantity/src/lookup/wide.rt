@@ -20,6 +20,7 @@ impl Model for Wide {
 }
 
 /// The product of two quantities.
+#[inline]
 pub fn product(a: Micro, b: Micro) -> Wide
     ensures value { result ≡ a *ℤ b }
     ensures small { nat_abs a ≤ 2 ^ 37 → nat_abs b ≤ 2 ^ 37 → nat_abs result ≤ 2 ^ 74 }
@@ -29,6 +30,7 @@ pub fn product(a: Micro, b: Micro) -> Wide
 
 impl Wide {
     /// Twice the number.
+    #[inline]
     pub fn doubled(self) -> Wide
         requires { nat_abs self ≤ 2 ^ 120 }
         ensures value { result ≡ pos 2 *ℤ self }
@@ -38,6 +40,7 @@ impl Wide {
     }
 
     /// Whether it is below 0.
+    #[inline]
     pub fn is_negative(self) -> bool
         ensures { result ≡ int_lt self (pos 0) }
     {
@@ -45,6 +48,7 @@ impl Wide {
     }
 
     /// The number without its sign.
+    #[inline]
     pub fn magnitude(self) -> u128
         ensures { result ≡ nat_abs self }
     {
@@ -52,6 +56,7 @@ impl Wide {
     }
 
     /// A whole number.
+    #[inline]
     pub fn from_whole(whole: u128) -> Wide
         requires { whole < 2 ^ 127 }
         ensures { result ≡ pos whole }
@@ -60,6 +65,7 @@ impl Wide {
     }
 
     /// The quotient, rounded down.
+    #[inline]
     pub fn over(self, by: Wide) -> Wide
         requires { pos 0 <ℤ by }
         ensures { result ≡ int_div_euclid self by }
@@ -68,6 +74,7 @@ impl Wide {
     }
 
     /// The sum of two.
+    #[inline]
     pub fn plus(self, other: Wide) -> Wide
         requires left { nat_abs self ≤ 2 ^ 120 }
         requires right { nat_abs other ≤ 2 ^ 120 }
@@ -78,6 +85,7 @@ impl Wide {
     }
 
     /// The product with a quantity.
+    #[inline]
     pub fn times(self, by: Micro) -> Wide
         requires left { nat_abs self ≤ 2 ^ 75 }
         requires right { nat_abs by ≤ 2 ^ 37 }

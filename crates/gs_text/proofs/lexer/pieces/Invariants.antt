@@ -1,13 +1,13 @@
-use Rattle.std.proofs.Common.{length, ◌-◌, ◌≡◌, ◌+◌, ◌≤◌, drop}
-use Rattle.gs_text.specs.Cut.{cut, onto, pieces}
+use Rattle.std.proofs.Common.{◌-◌, length}
+use Rattle.gs_text.specs.Cutter.{IsPlace}
+use Rattle.gs_text.proofs.PieceByPiece.{Collects}
 use Rattle.gs_text.proofs.lexer.pieces.Given as goal
 
-abbrev pub invariant-loop-at : goal.invariant-loop-at
-invariant-loop-at l = record {
-  within : l.at ≤ length l.bytes;
-  lines : l.line ≤ l.at + 1;
-  so_far : onto l.found.items (cut l.style l.line l.at 0 (drop l.at l.bytes)) ≡ pieces l.style l.bytes;
+abbrev pub invariant-loop-piece : goal.invariant-loop-piece
+invariant-loop-piece l = record {
+  place : IsPlace l.bytes l.place;
+  collects : Collects l.style l.bytes l.found.items l.place;
 }
 
-abbrev pub decreases-loop-at : goal.decreases-loop-at
-decreases-loop-at l = length l.bytes - l.at
+abbrev pub decreases-loop-piece : goal.decreases-loop-piece
+decreases-loop-piece l = length l.bytes - l.place.at

@@ -1,12 +1,8 @@
-use Rattle.gs_top.specs.Work.{the_job}
-use Rattle.gs_top.proofs.Exact.{exact_job}
-use Rattle.gs_top.proofs.Accepting.{done_accepted}
+use Rattle.gs_top.specs.Job.{job_of}
+use Rattle.std.proofs.Common.{Some}
+use Rattle.gs_top.proofs.Acting.{acts_of}
 use Rattle.gs_top.proofs.program.act.Goals as goal
 
-pub returns-in-Some-clause-complete : goal.returns-in-Some-clause-complete
-returns-in-Some-clause-complete g c tells accepted none =
-    done_accepted _ _ (the_job c.in-Some.job) _ _ c.as_slice.ensures c.in-Some.ensures.job (λ d h. c.work.ensures.complete tells d h none) accepted
-
-pub returns-in-Some-clause-exact : goal.returns-in-Some-clause-exact
-returns-in-Some-clause-exact g c tells job form s =
-    exact_job _ _ (the_job c.in-Some.job) job (g.H.Shelf.files c.args.shelf.now) s _ c.as_slice.ensures c.in-Some.ensures.job form (c.work.ensures.exact tells s)
+pub returns-in-Ok : goal.returns-in-Ok
+returns-in-Ok g c =
+    acts_of g.H.Shelf.tells (job_of c.args.words.now) (Some c.in-Ok.job) _ _ c.act_job.result c.in-Ok.ensures.read c.act_job.ensures

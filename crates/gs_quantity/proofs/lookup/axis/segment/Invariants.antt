@@ -1,4 +1,4 @@
-use Rattle.std.proofs.Common.{ℕ, ◌-◌, ◌<◌, ◌≤◌, ◌≤ℤ◌, length}
+use Rattle.std.proofs.Common.{◌-◌, ◌<◌, ◌≤◌, ◌≤ℤ◌}
 use Rattle.gs_quantity.specs.Lookup.{at}
 use Rattle.gs_quantity.proofs.lookup.axis.segment.Given as goal
 

@@ -1,6 +1,6 @@
 use Rattle.std.proofs.Common.{◌∙◌, sym, length, arith}
 use Rattle.gs_quantity.specs.TableFault.{is_wide}
-use Rattle.gs_quantity.proofs.Places.{place_here, place_skip, place_end}
+use Rattle.gs_quantity.proofs.Places.{place_here, place_skip}
 use Rattle.gs_quantity.proofs.lookup.fault.first_wide.Goals as goal
 
 pub returns-then-is_wide_at-clause-value : goal.returns-then-is_wide_at-clause-value

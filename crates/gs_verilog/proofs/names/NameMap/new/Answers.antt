@@ -7,5 +7,4 @@ returns c =
     record {
       buckets = omega (arith, c.requires, c.in_ok-buckets.ensures.count);
       empty = none_found (record { buckets = c.in_ok-buckets.buckets }) c.in_ok-buckets.ensures.empty;
-      err = tt;
     }

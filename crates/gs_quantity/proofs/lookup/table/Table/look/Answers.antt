@@ -1,4 +1,3 @@
-use Rattle.std.proofs.Common.{◌≡◌, ◌∙◌, sym, pos}
 use Rattle.gs_quantity.proofs.lookup.table.Table.look.Goals as goal
 
 pub returns-clause-exact : goal.returns-clause-exact

@@ -1,0 +1,4 @@
+pub mod AlternativeLaws
+pub mod Columns
+pub mod HotLaws
+pub mod SizeLaws

@@ -1,0 +1,10 @@
+use Rattle.std.proofs.Common.{◌≡◌, ◌<◌, length, sym, ◌∙◌, ap, arith}
+use Rattle.gs_design.specs.Insts.{Inst, inst_at, no_row}
+use Rattle.gs_design.proofs.Columns.{many_insts, read_inst}
+use Rattle.gs_design.proofs.insts.Insts.output.Goals as goal
+
+pub at-requires : goal.at-requires
+at-requires c = rw c.index.ensures (omega (arith, many_insts c.self.inside.choices c.self.inside.rows c.self.inside.inputs c.self.inside.names c.args.self.now c.self.view_is, c.requires))
+
+pub returns : goal.returns
+returns c = rw (c.at.ensures no_row, c.index.ensures) (sym (ap (λ (i : Inst). i.output) (read_inst c.self.inside.choices c.self.inside.rows c.self.inside.inputs c.self.inside.names c.args.self.now c.self.view_is c.args.inst c.requires)))

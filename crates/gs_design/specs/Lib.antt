@@ -1,0 +1,17 @@
+pub mod Amounts
+pub mod Cell
+pub mod Cells
+pub mod Alternatives
+pub mod Library
+pub mod Insts
+pub mod Nets
+pub mod Ends
+pub mod Design
+pub mod Hot
+pub mod Parts
+pub mod Times
+pub mod Sizes
+pub mod Load
+pub mod Edges
+pub mod Timing
+pub mod Limits

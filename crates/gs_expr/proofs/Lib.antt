@@ -1,0 +1,12 @@
+pub mod Agree
+pub mod Bits
+pub mod Clauses
+pub mod Complete
+pub mod Cuts
+pub mod Deep
+pub mod Outcome
+pub mod Parts
+pub mod Reading
+pub mod Sound
+pub mod Trees
+pub mod Unknown

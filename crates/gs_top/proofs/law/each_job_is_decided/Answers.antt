@@ -1,0 +1,5 @@
+use Rattle.gs_top.proofs.Deciding.{each_job}
+use Rattle.gs_top.proofs.law.each_job_is_decided.Goals as goal
+
+pub returns : goal.returns
+returns c = each_job c.requires

@@ -1,0 +1,47 @@
+//! The files of a job, by what each is to the command.
+
+use crate::job::SizeJob;
+use crate::status::{Input, Output};
+
+/// A job, as the stages and the stores see it: the names of its files.
+pub(crate) trait JobFiles {
+    ghost use Rattle.std.specs.Prelude.{◌≡◌, ℕ, List};
+    ghost use Rattle.gs_top.specs.declared.status.Input.{Input};
+    ghost use Rattle.gs_top.specs.declared.status.Output.{Output};
+
+    ghost inputs: { Self → Input → List ℕ };
+
+    ghost outputs: { Self → Output → List ℕ };
+
+    /// The name of a file that the command reads; empty for one that it doesn't read.
+    fn input(&self, file: Input) -> &str
+        ensures { result.now ≡ inputs self.now file };
+
+    /// The name of a file that the command writes; empty for one that it doesn't write, and for the console.
+    fn output(&self, to: Output) -> &str
+        ensures { result.now ≡ outputs self.now to };
+}
+
+impl JobFiles for SizeJob {
+    ghost use Rattle.gs_top.specs.Job.{input_of, output_of};
+    ghost use Rattle.gs_top.specs.declared.job.Job.TheVariants.{Size};
+
+    ghost inputs = { λ job. input_of (Size job) };
+
+    ghost outputs = { λ job. output_of (Size job) };
+
+    fn input(&self, file: Input) -> &str {
+        match file {
+            Input::Lib => self.lib.as_str(),
+            Input::Verilog => self.verilog.as_str(),
+        }
+    }
+
+    fn output(&self, to: Output) -> &str {
+        match to {
+            Output::Sizes => self.sizes.as_str(),
+            Output::Report => self.report.as_str(),
+            Output::Console => "",
+        }
+    }
+}

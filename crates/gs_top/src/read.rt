@@ -1,0 +1,72 @@
+//! Reading a command's words.
+ghost use Rattle.std.specs.Prelude.{◌≡◌, ◌<◌, true, IfOk, length, map, string_bytes};
+ghost use Rattle.gs_top.specs.Job.{job_of, is_good, is_size, size_of, size_with, IsRead};
+
+use crate::job::{Job, SizeJob};
+use crate::name::Name;
+use crate::options::{are_given, are_names, value_at};
+use crate::words::Words;
+use gs_quantity::Mem;
+use std::alloc::Global;
+
+/// Why words make no job.
+#[derive(Clone, Copy, Debug, PartialEq, Eq)]
+pub enum WordsErr {
+    /// They are not of a command's form, a file's name is empty, or two names are the same.
+    Usage,
+    /// Memory for the names ran out.
+    Mem,
+}
+
+/// The names that follow the four options of `size`.
+fn copy_names(alloc: Global, words: &[String]) -> Result<SizeJob, Mem>
+    requires { 7 < length words.now }
+    ensures { IfOk result (λ job. job ≡ size_with (map string_bytes words.now)) }
+{
+    Ok(SizeJob {
+        lib: Name::copy_of(alloc, value_at(words, 0))?,
+        verilog: Name::copy_of(alloc, value_at(words, 1))?,
+        sizes: Name::copy_of(alloc, value_at(words, 2))?,
+        report: Name::copy_of(alloc, value_at(words, 3))?,
+    })
+}
+
+/// Whether these are the words after `size` of a good job.
+fn is_size(words: &[String]) -> bool
+    ensures { result ≡ is_size (map string_bytes words.now) }
+{
+    are_given(&["--lib", "--verilog", "--sizes", "--report"], words)
+        && are_names(&[
+            value_at(words, 0),
+            value_at(words, 1),
+            value_at(words, 2),
+            value_at(words, 3),
+        ])
+}
+
+/// The job of the words after `size`.
+fn read_size(alloc: Global, words: &[String]) -> Result<Job, WordsErr>
+    ensures read { IsRead (size_of (map string_bytes words.now)) result }
+    ensures good { IfOk result (λ job. is_good job ≡ true) }
+{
+    if !is_size(words) {
+        return Err(WordsErr::Usage);
+    }
+    match copy_names(alloc, words) {
+        Ok(job) => Ok(Job::Size(job)),
+        Err(_) => Err(WordsErr::Mem),
+    }
+}
+
+/// The job of a command's words. Its names are copies, which take memory; whether the words make a job takes none.
+pub fn read_words(alloc: Global, words: &Words) -> Result<Job, WordsErr>
+    // The job of the words where they make one, unless memory runs out; and `Usage` exactly where they make none.
+    ensures read { IsRead (job_of words.now) result }
+    // What is made keeps the condition of a job: no name is empty, and all differ.
+    ensures good { IfOk result (λ job. is_good job ≡ true) }
+{
+    match words.as_slice() {
+        [command, words @ ..] if command.as_str() == "size" => read_size(alloc, words),
+        _ => Err(WordsErr::Usage),
+    }
+}
