@@ -25,9 +25,11 @@
 #![tactic(auto)]
 
 mod driver;
+mod law;
 mod machine;
 mod refusal;
 
 pub use driver::drive;
+pub use law::each_text_is_decided;
 pub use machine::{Fault, Machine, StepErr};
 pub use refusal::Refusal;

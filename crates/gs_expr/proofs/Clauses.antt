@@ -1,7 +1,9 @@
 -- The clauses of the public call, from its answer as a function of the bytes and names.
 
-use Rattle.std.proofs.Common.{◌≡◌, ◌≢◌, ◌⊎◌, ◌∙◌, inl, inr, sym, ap, subst, refl, ℕ, ◌<◌, ◌≤◌, Bool, true, false, nat_lt, List, length, Result, Ok, Err, IfOk, IfErr, MatchResult, if◌then◌else◌, arith}
+use Rattle.std.proofs.Common.{◌≡◌, ◌≢◌, ◌⊎◌, ◌↔◌, ◌∙◌, inl, inr, sym, ap, subst, refl, ℕ, ◌<◌, ◌≤◌, Bool, true, false, nat_lt, List, length, Result, Ok, Err, IfOk, IfErr, MatchResult, if◌then◌else◌, arith}
 use Rattle.std.proofs.lemmas.Bool.Decides.{nat_tests}
+use Rattle.gs_grammar.proofs.Lawful.{lawful}
+use Rattle.gs_grammar.specs.Lawful.{IsLawful}
 use Rattle.gs_expr.specs.Machine.{reading, outcome, Fails}
 use Rattle.gs_expr.specs.Refusal.{HasCause, IsDecided}
 use Rattle.gs_expr.specs.Truth.{IsTruth}
@@ -100,3 +102,14 @@ module _ (bytes : List ℕ) (names : List (List ℕ)) where
 
   pub decided : IsDecided bytes names
   decided = decided_by whole refl
+
+  -- ---- the law
+
+  pub is_lawful : IsLawful ExprErr.Mem (IsTruth bytes names) (HasCause bytes names)
+  is_lawful = lawful ExprErr.Mem whole (IsTruth bytes names) (HasCause bytes names) truth_ok cause_err decided
+
+  pub is_table : (v : ℕ) → (whole ≡ Ok v) ↔ IsTruth bytes names v
+  is_table v = (ok_truth v, truth_ok v)
+
+  pub is_refusal : (e : ExprErr) → (whole ≡ Err e) ↔ ((e ≢ ExprErr.Mem) × HasCause bytes names e)
+  is_refusal e = (err_why e, λ w. cause_err e w.0 w.1)

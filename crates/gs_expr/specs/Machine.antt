@@ -187,7 +187,7 @@ abbrev pub reading : List ℕ → List (List ℕ) → Result ℕ ExprErr
 reading bytes names =
     judged (length names) (length bytes) (unknown_from names None (lexemes bytes)) (run (go_lexeme names) first (lexemes bytes))
 
--- the table of a text over any names, or its first refusal
+-- the table of a text over any names, or its first refusal: `IsTruth` and `HasCause` as a value, by the law of expressions
 abbrev pub outcome : List ℕ → List (List ℕ) → Result ℕ ExprErr
 outcome bytes names = if nat_lt 6 (length names) then Err ExprErr.TooMany else reading bytes names
 

@@ -120,6 +120,9 @@ pub fn truth(alloc: Global, bytes: &[u8], names: &[Name]) -> Result<u64, ExprErr
     ensures decided { IsDecided bytes.now names.now }
     // What begins an expression, as the causes say it, is a front of it by the cases of its form.
     ensures fronts { (tokens : List Token) → IsFront tokens ↔ IsFrontByCases tokens }
+    // The answer is a function of the text and the names, unless memory runs out; `each_text_is_decided` says of which
+    // texts it is which table or refusal.
+    ensures function { MatchResult result (λ v. outcome bytes.now names.now ≡ Ok v) (λ e. Fails e (outcome bytes.now names.now)) }
 {
     if names.len() > NAMES {
         return Err(ExprErr::TooMany);

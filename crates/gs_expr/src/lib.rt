@@ -5,7 +5,8 @@
 //! name `j` has bit `j` of `i`. Its contract says both ways what is read: it answers `Ok` exactly for the texts that are a
 //! whole expression over the names with at most 64 parentheses open at once, with the one table, bit by bit; each refusal
 //! comes exactly where its cause stands, at the byte that it names; and each text has a table or a cause. Want of memory is
-//! the one answer that may come at any point.
+//! the one answer that may come at any point. [`each_text_is_decided`] is the law of these definitions: one table or one cause, and
+//! never both; and `outcome`, the same answer as a value, is that table or that cause.
 //!
 //! From the loosest to the tightest, the operators are `+` or `|`, then `*` or `&` or nothing between two operands, then `^`,
 //! then `!` before an operand, then `'` after one. So `a b ^ c` is `a * (b ^ c)`.
@@ -27,6 +28,7 @@
 
 mod error;
 mod evaluate;
+mod law;
 mod reader;
 mod symbol;
 mod table;
@@ -36,3 +38,4 @@ mod token;
 
 pub use error::ExprErr;
 pub use evaluate::truth;
+pub use law::each_text_is_decided;

@@ -1,4 +1,5 @@
 pub mod Answers
 pub mod Fronts
 pub mod Judged
+pub mod Lawful
 pub mod Machine

@@ -29,11 +29,13 @@
 
 mod driven;
 mod error;
+mod law;
 mod read;
 mod reader;
 mod token;
 mod tree;
 
 pub use error::LibTextErr;
+pub use law::each_text_is_decided;
 pub use read::read_tree;
 pub use tree::{Group, Item, Node};

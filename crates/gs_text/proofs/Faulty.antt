@@ -1,9 +1,11 @@
 -- The fault of a text: where one has its cause, and that the cause stands nowhere else.
-use Rattle.std.proofs.Common.{◌≡◌, ◌≢◌, ◌⊎◌, ◌↔◌, ◌∙◌, sym, ap, refl, ℕ, suc, ◌+◌, ◌-◌, ◌<◌, ◌≤◌, ◌==◌, Bool, true, false, get_or, List, [], ◌∷◌, Result, Ok, Err, length, drop, length-drop, nat_lt, add-one, arith, subst, inl}
+use Rattle.std.proofs.Common.{◌≡◌, ◌≢◌, ◌⊎◌, ◌↔◌, ◌∙◌, sym, ap, refl, ℕ, suc, ◌+◌, ◌-◌, ◌<◌, ◌≤◌, ◌==◌, Bool, true, false, get_or, List, [], ◌∷◌, Result, Ok, Err, length, drop, length-drop, nat_lt, add-one, arith, subst, inl, inr}
 use Rattle.std.proofs.lemmas.List.{drop_all, get_or-drop}
 use Rattle.std.proofs.lemmas.Bool.Decides.{nat_tests}
 use Rattle.gs_text.specs.Cut.{ComesIn, onto, pieces}
-use Rattle.gs_text.specs.Faults.{Takes, BeginsWith, IsPart, Leads, IsOpenString, IsOpenComment, HasFault}
+use Rattle.gs_text.specs.Faults.{Leads, IsReached, IsOpenString, IsOpenComment, HasFault}
+use Rattle.gs_text.proofs.Fronts.{SkipsHere}
+use Rattle.gs_text.proofs.Ways.{BeginsWith, IsPartBy, LeadsBy, Takes, leads_from, leads_to}
 use Rattle.gs_text.specs.Front.{front}
 use Rattle.gs_text.specs.Liberty.{liberty_front, string_front}
 use Rattle.gs_text.specs.Comments.{comment_front}
@@ -34,7 +36,7 @@ same_err x e h = cc
 -- the place of a fault is reached, and there begins what the fault is of
 pub record IsAt (style : Style) (begin : ℕ → List ℕ → Front) (bs : List ℕ) (from at : ℕ) (f : Front) : Type 0 where
   pub parts : List ℕ
-  pub leads : Leads begin bs from at parts
+  pub leads : LeadsBy begin bs from at parts
   pub begins : BeginsWith begin (drop at bs) f
 
 abbrev AtFault : Style → (ℕ → List ℕ → Front) → List ℕ → (from : ℕ) → TextErr → Type 0
@@ -49,7 +51,7 @@ module _ (style : Style) (begin : ℕ → List ℕ → Front) (plain : (braced b
       let P : List ℕ → Type 0 = λ xs. BeginsWith begin xs f in
       subst P (sym b.split) (sym (plain here.braced (here.latest == here.first) b.first b.rest) ∙ b.front_is)
 
-  longer : (from len : ℕ) (e : TextErr) → IsPart begin bs from len → AtFault style begin bs (from + len) e → AtFault style begin bs from e
+  longer : (from len : ℕ) (e : TextErr) → IsPartBy begin bs from len → AtFault style begin bs (from + len) e → AtFault style begin bs from e
   longer from len (TextErr.OpenString at) p s = record { parts = len ∷ s.parts; leads = (p, s.leads); begins = s.begins }
   longer from len (TextErr.OpenComment at) p s = record { parts = len ∷ s.parts; leads = (p, s.leads); begins = s.begins }
   longer from len TextErr.Mem p s = s
@@ -92,7 +94,7 @@ module _ (style : Style) (begin : ℕ → List ℕ → Front) (plain : (braced b
 
   module _ (f : Front) (at : ℕ) (x : TextErr) (is : FaultIs f at x) (opens : BeginsWith begin (drop at bs) f) where
     abbrev Met : List Piece → Place → Result (List Piece) TextErr → Type 0
-    Met before here r = (parts : List ℕ) → Leads begin bs here.at at parts → r ≡ Err x
+    Met before here r = (parts : List ℕ) → LeadsBy begin bs here.at at parts → r ≡ Err x
 
     -- what begins where the fault should be is the fault
     is_there : (here : Place) (g : Front) → Begins style bs here g → here.at ≡ at → f ≡ g
@@ -100,19 +102,19 @@ module _ (style : Style) (begin : ℕ → List ℕ → Front) (plain : (braced b
         let P : ℕ → Type 0 = λ n. BeginsWith begin (drop n bs) f in
         one_front (drop here.at bs) f g (subst P (sym e) opens) (begins_here here g b)
 
-    is_part : (here : Place) (g : Front) (n : ℕ) → Begins style bs here g → IsPart begin bs here.at n → Takes g n
+    is_part : (here : Place) (g : Front) (n : ℕ) → Begins style bs here g → IsPartBy begin bs here.at n → Takes g n
     is_part here g n b p =
         let P : Front → Type 0 = λ q. Takes q n in
         subst P (one_front (drop here.at bs) p.what g p.begins (begins_here here g b)) p.takes
 
     -- where no fault begins, the way leads on
     goes : (g : Front) (len : ℕ) → ((n : ℕ) → Takes g n → n ≡ len) → ((n : ℕ) (e : TextErr) → FaultIs g n e → ⊥)
-        → (here : Place) → Begins style bs here g → (parts : List ℕ) → Leads begin bs here.at at parts → (ns : List ℕ) × Leads begin bs (here.at + len) at ns
+        → (here : Place) → Begins style bs here g → (parts : List ℕ) → LeadsBy begin bs here.at at parts → (ns : List ℕ) × LeadsBy begin bs (here.at + len) at ns
     goes g len takes none here b [] l =
         let P : Front → Type 0 = λ q. FaultIs q at x in
         absurd (none at x (subst P (is_there here g b l) is))
     goes g len takes none here b (n ∷ ns) l =
-        let P : ℕ → Type 0 = λ m. Leads begin bs (here.at + m) at ns in
+        let P : ℕ → Type 0 = λ m. LeadsBy begin bs (here.at + m) at ns in
         (ns, subst P (takes n (is_part here g n b l.0)) l.1)
 
     no_part : (g : Front) (n m : ℕ) (e : TextErr) → Takes g n → FaultIs g m e → ⊥
@@ -129,14 +131,14 @@ module _ (style : Style) (begin : ℕ → List ℕ → Front) (plain : (braced b
     one_fault OpenString n e y a b = a ∙ sym b
     one_fault OpenComment n e y a b = a ∙ sym b
 
-    ends_so : (here : Place) (g : Front) (e : TextErr) → Begins style bs here g → FaultIs g here.at e → (parts : List ℕ) → Leads begin bs here.at at parts → e ≡ x
+    ends_so : (here : Place) (g : Front) (e : TextErr) → Begins style bs here g → FaultIs g here.at e → (parts : List ℕ) → LeadsBy begin bs here.at at parts → e ≡ x
     ends_so here g e b i [] l =
         let P : ℕ → Type 0 = λ n. FaultIs g n e in
         let Q : Front → Type 0 = λ q. FaultIs q at x in
         one_fault g at e x (subst P l i) (subst Q (is_there here g b l) is)
     ends_so here g e b i (n ∷ ns) l = absurd (no_part g n here.at e (is_part here g n b l.0) i)
 
-    never : (here : Place) → here.at ≡ length bs → (parts : List ℕ) → Leads begin bs here.at at parts → ⊥
+    never : (here : Place) → here.at ≡ length bs → (parts : List ℕ) → LeadsBy begin bs here.at at parts → ⊥
     never here e [] l =
         let P : ℕ → Type 0 = λ n. BeginsWith begin (drop n bs) f in
         nothing_there here f e (subst P (sym l) opens)
@@ -146,23 +148,23 @@ module _ (style : Style) (begin : ℕ → List ℕ → Front) (plain : (braced b
     met_steps = record {
       at_end = λ before here a e parts l. absurd (never here e parts l);
       at_white = λ before here a b r later parts l.
-          let q : (ns : List ℕ) × Leads begin bs (here.at + 1) at ns = goes Gap 1 (λ n t. t) (λ n e i. i) here b parts l in
+          let q : (ns : List ℕ) × LeadsBy begin bs (here.at + 1) at ns = goes Gap 1 (λ n t. t) (λ n e i. i) here b parts l in
           later q.0 q.1;
       at_piece = λ before here a kind len b pos within r later parts l.
-          let q : (ns : List ℕ) × Leads begin bs (here.at + len) at ns = goes (Found kind len) len (λ n t. t) (λ n e i. i) here b parts l in
+          let q : (ns : List ℕ) × LeadsBy begin bs (here.at + len) at ns = goes (Found kind len) len (λ n t. t) (λ n e i. i) here b parts l in
           ap (onto (piece_here style here kind len ∷ [])) (later q.0 q.1);
       at_comment = λ before here a len b pos within r later parts l.
-          let q : (ns : List ℕ) × Leads begin bs (here.at + len) at ns = goes (Passed len) len (λ n t. t) (λ n e i. i) here b parts l in
+          let q : (ns : List ℕ) × LeadsBy begin bs (here.at + len) at ns = goes (Passed len) len (λ n t. t) (λ n e i. i) here b parts l in
           later q.0 q.1;
       at_fault = λ before here a g b e i parts l. ap Err (ends_so here g e b i parts l);
     }
 
-    pub met : (parts : List ℕ) → Leads begin bs 0 at parts → pieces style bs ≡ Err x
+    pub met : (parts : List ℕ) → LeadsBy begin bs 0 at parts → pieces style bs ≡ Err x
     met = walk_all style bs Met met_steps
 
 -- each style has its own faults
 module _ (style : Style) (bs : List ℕ) where
-  comes_by : (s : Style) (xs : List ℕ) (f : Front) (at : ℕ) (x : TextErr) → Says s false xs f → FaultIs f at x → ComesIn s x
+  comes_by : (s : Style) (xs : List ℕ) (f : Front) (at : ℕ) (x : TextErr) → Says s false false xs f → FaultIs f at x → ComesIn s x
   comes_by s xs Gap at x h is = absurd is
   comes_by s xs (Found kind len) at x h is = absurd is
   comes_by s xs (Passed len) at x h is = absurd is
@@ -176,12 +178,12 @@ module _ (style : Style) (bs : List ℕ) where
   comes_by Sdc xs OpenComment at x h is = absurd h
 
   -- what a fault says doesn't depend on braces
-  unbraced : (braced : Bool) (xs : List ℕ) (f : Front) (at : ℕ) (x : TextErr) → FaultIs f at x → Says style braced xs f → Says style false xs f
-  unbraced braced xs Gap at x is h = absurd is
-  unbraced braced xs (Found kind len) at x is h = absurd is
-  unbraced braced xs (Passed len) at x is h = absurd is
-  unbraced braced xs OpenString at x is h = h
-  unbraced braced xs OpenComment at x is h = h
+  unbraced : (braced begun : Bool) (xs : List ℕ) (f : Front) (at : ℕ) (x : TextErr) → FaultIs f at x → Says style braced begun xs f → Says style false false xs f
+  unbraced braced begun xs Gap at x is h = absurd is
+  unbraced braced begun xs (Found kind len) at x is h = absurd is
+  unbraced braced begun xs (Passed len) at x is h = absurd is
+  unbraced braced begun xs OpenString at x is h = h
+  unbraced braced begun xs OpenComment at x is h = h
 
   abbrev Own : List Piece → Place → Result (List Piece) TextErr → Type 0
   Own before here r = (e : TextErr) → r ≡ Err e → ComesIn style e
@@ -194,7 +196,7 @@ module _ (style : Style) (bs : List ℕ) where
     at_comment = λ before here a len b pos within r later. later;
     at_fault = λ before here a f b x is e h.
         subst (ComesIn style) (same_err x e h)
-        (comes_by style (drop here.at bs) f here.at x (unbraced here.braced (drop here.at bs) f here.at x is (says_here style bs here f b)) is);
+        (comes_by style (drop here.at bs) f here.at x (unbraced here.braced (here.latest == here.first) (drop here.at bs) f here.at x is (says_here style bs here f b)) is);
   }
 
   pub pieces-comes : (e : TextErr) → pieces style bs ≡ Err e → ComesIn style e
@@ -233,23 +235,23 @@ from_there bs at k le = let e : at + (k - at) ≡ k = omega arith in past bs at 
 first_there : (bs : List ℕ) (at : ℕ) → get_or (drop at bs) 0 0 ≡ get_or bs at 0
 first_there bs at = let e : at + 0 ≡ at = omega arith in past bs at 0 ∙ ap (λ i. get_or bs i 0) e
 
-begins_at : (begin : ℕ → List ℕ → Front) (style : Style) → ((c : ℕ) (cs : List ℕ) → Says style false (c ∷ cs) (begin c cs))
-    → (xs : List ℕ) (f : Front) → BeginsWith begin xs f → Says style false xs f
+begins_at : (begin : ℕ → List ℕ → Front) (style : Style) → ((c : ℕ) (cs : List ℕ) → Says style false false (c ∷ cs) (begin c cs))
+    → (xs : List ℕ) (f : Front) → BeginsWith begin xs f → Says style false false xs f
 begins_at begin style says [] f b = absurd b
-begins_at begin style says (c ∷ cs) f b = subst (Says style false (c ∷ cs)) b (says c cs)
+begins_at begin style says (c ∷ cs) f b = subst (Says style false false (c ∷ cs)) b (says c cs)
 
-open_string : (begin : ℕ → List ℕ → Front) (bs : List ℕ) (at : ℕ) → (parts : List ℕ) → Leads begin bs 0 at parts → IsUnquoted (drop at bs) → IsOpenString begin bs at
-open_string begin bs at parts leads u = record {
-  reached = record { parts = parts; leads = leads };
+open_string : (style : Style) (bs : List ℕ) (at : ℕ) → IsReached style bs at → IsUnquoted (drop at bs) → IsOpenString style bs at
+open_string style bs at reached u = record {
+  reached = reached;
   quote = sym (first_there bs at) ∙ u.quote;
   none = λ k lt within.
       let P : ℕ → Type 0 = λ c. c ≢ 34 in
       subst P (from_there bs at k (omega arith)) (u.none (k - at) (omega arith) (omega (arith, length-drop at bs)));
 }
 
-open_comment : (begin : ℕ → List ℕ → Front) (bs : List ℕ) (at : ℕ) → (parts : List ℕ) → Leads begin bs 0 at parts → IsUnclosed (drop at bs) → IsOpenComment begin bs at
-open_comment begin bs at parts leads u = record {
-  reached = record { parts = parts; leads = leads };
+open_comment : (style : Style) (bs : List ℕ) (at : ℕ) → IsReached style bs at → IsUnclosed (drop at bs) → IsOpenComment style bs at
+open_comment style bs at reached u = record {
+  reached = reached;
   slash = sym (first_there bs at) ∙ u.slash;
   star = sym (past bs at 1) ∙ u.star;
   none = λ k lt within first second.
@@ -312,8 +314,8 @@ opened_by (c ∷ d ∷ ds) a b none = record {
   open_front = no_close ds (λ k lt first. simp add-one (simp add-one at (none (suc (suc k)) (omega arith) (omega arith) first)));
 }
 
-opened : (begin : ℕ → List ℕ → Front) (bs : List ℕ) (at : ℕ) → IsOpenComment begin bs at → Opened (drop at bs)
-opened begin bs at i = opened_by (drop at bs) (first_there bs at ∙ i.slash) (past bs at 1 ∙ i.star)
+opened : (style : Style) (bs : List ℕ) (at : ℕ) → IsOpenComment style bs at → Opened (drop at bs)
+opened style bs at i = opened_by (drop at bs) (first_there bs at ∙ i.slash) (past bs at 1 ∙ i.star)
     (λ k more lt first.
     let next : at + (k + 1) ≡ at + k + 1 = omega arith in
     let P : ℕ → Type 0 = λ c. c ≢ 47 in
@@ -329,19 +331,46 @@ plain_verilog braced begun c cs = refl
 plain_liberty : (braced begun : Bool) (c : ℕ) (cs : List ℕ) → front Lib braced begun c cs ≡ liberty_front c cs
 plain_liberty braced begun c cs = refl
 
+-- no comment and no continued line end is empty
+no_slash : (x : ℕ) → x ≡ 0 → x ≡ 47 → ⊥
+no_slash x z e = omega (arith, z, e)
+
+no_back : (x : ℕ) → x ≡ 0 → x ≡ 92 → ⊥
+no_back x z e = omega (arith, z, e)
+
+verilog_skips : (len : ℕ) → SkipsHere Verilog false false len [] → ⊥
+verilog_skips len (inl s) = no_slash 0 refl s.slash
+verilog_skips len (inr b) = no_slash 0 refl b.slash
+
+liberty_skips : (len : ℕ) → SkipsHere Lib false false len [] → ⊥
+liberty_skips len (inl b) = no_slash 0 refl b.slash
+liberty_skips len (inr t) = no_back 0 refl t.backslash
+
+verilog_reached : (bs : List ℕ) (at : ℕ) (ns : List ℕ) → LeadsBy verilog_front bs 0 at ns → IsReached Verilog bs at
+verilog_reached bs at ns l = record { parts = ns; leads = leads_to Verilog verilog_front (plain_verilog false false) (verilog-says false false) bs (λ at len s. s) (λ at len s. s) verilog_skips 0 at ns l }
+
+liberty_reached : (bs : List ℕ) (at : ℕ) (ns : List ℕ) → LeadsBy liberty_front bs 0 at ns → IsReached Lib bs at
+liberty_reached bs at ns l = record { parts = ns; leads = leads_to Lib liberty_front (plain_liberty false false) (liberty-says false false) bs (λ at len s. s) (λ at len s. s) liberty_skips 0 at ns l }
+
+verilog_way : (bs : List ℕ) (at : ℕ) (ns : List ℕ) → Leads Verilog bs 0 at ns → LeadsBy verilog_front bs 0 at ns
+verilog_way bs at ns l = leads_from Verilog verilog_front (plain_verilog false false) (verilog-says false false) bs (λ at len s. s) (λ at len s. s) verilog_skips 0 at ns l
+
+liberty_way : (bs : List ℕ) (at : ℕ) (ns : List ℕ) → Leads Lib bs 0 at ns → LeadsBy liberty_front bs 0 at ns
+liberty_way bs at ns l = leads_from Lib liberty_front (plain_liberty false false) (liberty-says false false) bs (λ at len s. s) (λ at len s. s) liberty_skips 0 at ns l
+
 -- a fault of the cutting has its cause
 pub has_cause : (style : Style) (bs : List ℕ) (e : TextErr) → pieces style bs ≡ Err e → HasFault style bs e
 has_cause Verilog bs (TextErr.OpenString at) h = pieces-comes Verilog bs (TextErr.OpenString at) h
 has_cause Verilog bs (TextErr.OpenComment at) h =
     let i : IsAt Verilog verilog_front bs 0 at OpenComment = blamed Verilog verilog_front plain_verilog bs (TextErr.OpenComment at) h in
-    open_comment verilog_front bs at i.parts i.leads (begins_at verilog_front Verilog (verilog-says false) (drop at bs) OpenComment i.begins)
+    open_comment Verilog bs at (verilog_reached bs at i.parts i.leads) (begins_at verilog_front Verilog (verilog-says false false) (drop at bs) OpenComment i.begins)
 has_cause Verilog bs TextErr.Mem h = blamed Verilog verilog_front plain_verilog bs TextErr.Mem h
 has_cause Lib bs (TextErr.OpenString at) h =
     let i : IsAt Lib liberty_front bs 0 at OpenString = blamed Lib liberty_front plain_liberty bs (TextErr.OpenString at) h in
-    open_string liberty_front bs at i.parts i.leads (begins_at liberty_front Lib (liberty-says false) (drop at bs) OpenString i.begins)
+    open_string Lib bs at (liberty_reached bs at i.parts i.leads) (begins_at liberty_front Lib (liberty-says false false) (drop at bs) OpenString i.begins)
 has_cause Lib bs (TextErr.OpenComment at) h =
     let i : IsAt Lib liberty_front bs 0 at OpenComment = blamed Lib liberty_front plain_liberty bs (TextErr.OpenComment at) h in
-    open_comment liberty_front bs at i.parts i.leads (begins_at liberty_front Lib (liberty-says false) (drop at bs) OpenComment i.begins)
+    open_comment Lib bs at (liberty_reached bs at i.parts i.leads) (begins_at liberty_front Lib (liberty-says false false) (drop at bs) OpenComment i.begins)
 has_cause Lib bs TextErr.Mem h = blamed Lib liberty_front plain_liberty bs TextErr.Mem h
 has_cause Spef bs (TextErr.OpenString at) h = pieces-comes Spef bs (TextErr.OpenString at) h
 has_cause Spef bs (TextErr.OpenComment at) h = pieces-comes Spef bs (TextErr.OpenComment at) h
@@ -354,10 +383,10 @@ has_cause Sdc bs TextErr.Mem h = never_mem Sdc bs h
 pub cause_met : (style : Style) (bs : List ℕ) (e : TextErr) → HasFault style bs e → pieces style bs ≡ Err e
 cause_met Verilog bs (TextErr.OpenString at) i = absurd i
 cause_met Verilog bs (TextErr.OpenComment at) i =
-    let o : Opened (drop at bs) = opened verilog_front bs at i in
+    let o : Opened (drop at bs) = opened Verilog bs at i in
     let P : List ℕ → Type 0 = λ xs. BeginsWith verilog_front xs OpenComment in
     met Verilog verilog_front plain_verilog bs OpenComment at (TextErr.OpenComment at) refl
-    (subst P (sym o.is) (verilog-opens o.first o.second o.rest o.slash o.star o.open_front)) i.reached.parts i.reached.leads
+    (subst P (sym o.is) (verilog-opens o.first o.second o.rest o.slash o.star o.open_front)) i.reached.parts (verilog_way bs at i.reached.parts i.reached.leads)
 cause_met Verilog bs TextErr.Mem i = absurd i
 cause_met Lib bs (TextErr.OpenString at) i =
     met Lib liberty_front plain_liberty bs OpenString at (TextErr.OpenString at) refl
@@ -365,12 +394,12 @@ cause_met Lib bs (TextErr.OpenString at) i =
     (λ k some lt.
     let P : ℕ → Type 0 = λ c. c ≢ 34 in
     subst P (sym (past bs at k)) (i.none (at + k) (omega arith) (omega (arith, length-drop at bs)))))
-    i.reached.parts i.reached.leads
+    i.reached.parts (liberty_way bs at i.reached.parts i.reached.leads)
 cause_met Lib bs (TextErr.OpenComment at) i =
-    let o : Opened (drop at bs) = opened liberty_front bs at i in
+    let o : Opened (drop at bs) = opened Lib bs at i in
     let P : List ℕ → Type 0 = λ xs. BeginsWith liberty_front xs OpenComment in
     met Lib liberty_front plain_liberty bs OpenComment at (TextErr.OpenComment at) refl
-    (subst P (sym o.is) (liberty-opens o.first o.second o.rest o.slash o.star o.open_front)) i.reached.parts i.reached.leads
+    (subst P (sym o.is) (liberty-opens o.first o.second o.rest o.slash o.star o.open_front)) i.reached.parts (liberty_way bs at i.reached.parts i.reached.leads)
 cause_met Lib bs TextErr.Mem i = absurd i
 cause_met Spef bs (TextErr.OpenString at) i = absurd i
 cause_met Spef bs (TextErr.OpenComment at) i = absurd i

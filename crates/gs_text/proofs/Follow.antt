@@ -36,8 +36,8 @@ module _ (style : Style) (bs : List ℕ) (here : Place) (kind : Kind) (len : ℕ
   abbrev p : Piece
   p = piece_here style here kind len
 
-  pub found : IsFound style here.braced kind len (b.first ∷ b.rest)
-  found = subst (Says style here.braced (b.first ∷ b.rest)) b.front_is (front-says style here.braced (here.latest == here.first) b.first b.rest)
+  pub found : IsFound style here.braced (here.latest == here.first) kind len (b.first ∷ b.rest)
+  found = subst (Says style here.braced (here.latest == here.first) (b.first ∷ b.rest)) b.front_is (front-says style here.braced (here.latest == here.first) b.first b.rest)
 
   pub lies : LiesIn (length bs) p
   lies = record { some = omega (arith, found.some); room = omega (arith, found.room); within = omega (arith, found.within, b.size) }

@@ -18,22 +18,22 @@ use Rattle.gs_text.specs.declared.kinds.Style.TheVariants.{Verilog, Lib, Spef, S
 use Rattle.gs_text.specs.declared.scan.Front.{Front}
 use Rattle.gs_text.specs.declared.scan.Front.TheVariants.{Gap, Found, Passed, OpenString, OpenComment}
 
-pub front-says : (style : Style) (braced begun : Bool) (c : ℕ) (cs : List ℕ) → Says style braced (c ∷ cs) (front style braced begun c cs)
-front-says Verilog braced begun c cs = verilog-says braced c cs
-front-says Lib braced begun c cs = liberty-says braced c cs
-front-says Spef braced begun c cs = spef-says braced c cs
+pub front-says : (style : Style) (braced begun : Bool) (c : ℕ) (cs : List ℕ) → Says style braced begun (c ∷ cs) (front style braced begun c cs)
+front-says Verilog braced begun c cs = verilog-says braced begun c cs
+front-says Lib braced begun c cs = liberty-says braced begun c cs
+front-says Spef braced begun c cs = spef-says braced begun c cs
 front-says Sdc braced begun c cs = sdc-says braced begun c cs
 
-fits : (style : Style) (braced : Bool) (c : ℕ) (cs : List ℕ) (f : Front) → Says style braced (c ∷ cs) f → FitsIn (length cs + 1) f
-fits style braced c cs Gap s = tt
-fits style braced c cs (Found kind len) s = (s.room, s.some, omega (arith, s.within))
-fits style braced c cs (Passed len) s = (s.some, omega (arith, s.within))
-fits style braced c cs OpenString s = tt
-fits style braced c cs OpenComment s = tt
+fits : (style : Style) (braced begun : Bool) (c : ℕ) (cs : List ℕ) (f : Front) → Says style braced begun (c ∷ cs) f → FitsIn (length cs + 1) f
+fits style braced begun c cs Gap s = tt
+fits style braced begun c cs (Found kind len) s = (s.room, s.some, omega (arith, s.within))
+fits style braced begun c cs (Passed len) s = (s.some, omega (arith, s.within))
+fits style braced begun c cs OpenString s = tt
+fits style braced begun c cs OpenComment s = tt
 
 -- what begins at a byte ends within the text
 pub front-fits : (style : Style) (braced begun : Bool) (c : ℕ) (cs : List ℕ) → FitsIn (length cs + 1) (front style braced begun c cs)
-front-fits style braced begun c cs = fits style braced c cs (front style braced begun c cs) (front-says style braced begun c cs)
+front-fits style braced begun c cs = fits style braced begun c cs (front style braced begun c cs) (front-says style braced begun c cs)
 
 -- bytes without white are on one line
 not_newline : (c : ℕ) → is_white c ≡ false → c == 10 ≡ false
@@ -56,5 +56,5 @@ one_line_of Mark len bs solid = no_breaks len bs solid
 -- no piece but a string has a newline
 pub one_line : (style : Style) (braced begun : Bool) (c : ℕ) (cs : List ℕ) (kind : Kind) (len : ℕ) → Found kind len ≡ front style braced begun c cs → IsOneLine kind (take len (c ∷ cs))
 one_line style braced begun c cs kind len e =
-    let found : IsFound style braced kind len (c ∷ cs) = subst (Says style braced (c ∷ cs)) (sym e) (front-says style braced begun c cs) in
+    let found : IsFound style braced begun kind len (c ∷ cs) = subst (Says style braced begun (c ∷ cs)) (sym e) (front-says style braced begun c cs) in
     one_line_of kind len (c ∷ cs) found.solid

@@ -12,3 +12,6 @@ pub mod Walk
 pub mod Shape
 pub mod Faulty
 pub mod LineLaws
+pub mod Fronts
+pub mod Ways
+pub mod Alone

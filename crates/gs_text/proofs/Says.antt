@@ -9,7 +9,7 @@ use Rattle.gs_text.specs.Comments.{comment_front}
 use Rattle.gs_text.specs.Skips.{IsBlockComment, IsSlashComment, IsHashComment, IsContinuation, IsRestOfLine}
 use Rattle.gs_text.specs.Pieces.{opening_len, closing_len}
 use Rattle.gs_text.specs.Runs.{until, is_newline, closes_comment}
-use Rattle.gs_text.specs.Whole.{IsWhole}
+use Rattle.gs_text.specs.Whole.{IsMark, IsWhole}
 use Rattle.gs_text.specs.declared.kinds.Kind.{Kind}
 use Rattle.gs_text.specs.declared.kinds.Kind.TheVariants.{Word, Escaped, Text, Mark}
 use Rattle.gs_text.specs.declared.kinds.Style.{Style}
@@ -33,12 +33,12 @@ IsSolid Text len bs = Unit {0}
 IsSolid Mark len bs = Solid len bs
 
 -- so many of these bytes are a piece
-pub record IsFound (style : Style) (braced : Bool) (kind : Kind) (len : ℕ) (bs : List ℕ) : Type 0 where
+pub record IsFound (style : Style) (braced begun : Bool) (kind : Kind) (len : ℕ) (bs : List ℕ) : Type 0 where
   pub room : opening_len kind + closing_len kind ≤ len
   pub some : 0 < len
   pub within : len ≤ length bs
   pub solid : IsSolid kind len bs
-  pub whole : IsWhole style braced kind len bs
+  pub whole : IsWhole style braced begun kind len bs
 
 -- they are a comment or a continued line end, wherever they stand
 abbrev pub Skips : Style → (len : ℕ) → List ℕ → Type 0
@@ -77,12 +77,12 @@ OpensComment Spef bs = ⊥
 OpensComment Sdc bs = ⊥
 
 -- what f says of the bytes that it begins with
-abbrev pub Says : Style → (braced : Bool) → List ℕ → Front → Type 0
-Says style braced bs Gap = is_white (slice_index bs 0) ≡ true
-Says style braced bs (Found kind len) = IsFound style braced kind len bs
-Says style braced bs (Passed len) = IsPassed style len bs
-Says style braced bs OpenString = OpensString style bs
-Says style braced bs OpenComment = OpensComment style bs
+abbrev pub Says : Style → (braced begun : Bool) → List ℕ → Front → Type 0
+Says style braced begun bs Gap = is_white (slice_index bs 0) ≡ true
+Says style braced begun bs (Found kind len) = IsFound style braced begun kind len bs
+Says style braced begun bs (Passed len) = IsPassed style len bs
+Says style braced begun bs OpenString = OpensString style bs
+Says style braced begun bs OpenComment = OpensComment style bs
 
 pub either : (P : Front → Type 0) (b : Bool) (f g : Front) → (b ≡ true → P f) → (b ≡ false → P g) → P (cond b f g)
 either P true f g p q = p refl
@@ -101,8 +101,8 @@ pub one-solid : (c : ℕ) (cs : List ℕ) → is_white c ≡ false → Solid 1 (
 one-solid c cs e zero lt = e
 one-solid c cs e (suc k) lt = absurd (omega arith)
 
-pub a_mark : (style : Style) (braced : Bool) (c : ℕ) (cs : List ℕ) → is_white c ≡ false → IsFound style braced Mark 1 (c ∷ cs)
-a_mark style braced c cs e = record { room = omega arith; some = omega arith; within = omega arith; solid = one-solid c cs e; whole = refl }
+pub a_mark : (style : Style) (braced begun : Bool) (c : ℕ) (cs : List ℕ) → is_white c ≡ false → IsMark style braced (c ∷ cs) → IsFound style braced begun Mark 1 (c ∷ cs)
+a_mark style braced begun c cs e mark = record { room = omega arith; some = omega arith; within = omega arith; solid = one-solid c cs e; whole = (refl, mark) }
 
 -- a comment up to the end of its line
 no_newline : (c : ℕ) → is_newline c 0 ≡ false → c ≢ 10

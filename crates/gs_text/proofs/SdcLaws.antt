@@ -5,10 +5,11 @@ use Rattle.std.proofs.lemmas.Bool.{cases_lt}
 use Rattle.std.proofs.lemmas.List.{get_or_past}
 use Rattle.gs_text.proofs.LibertyLaws.{continued, two_bytes}
 use Rattle.gs_text.proofs.Says.{Says, IsFound, IsPassed, either, solid_run, a_mark, rest_of_line}
-use Rattle.gs_text.proofs.Until.{until-le-length, run-ends, run-before}
+use Rattle.gs_text.proofs.Until.{until-le-length, run-ends, run-before, run-inside, until-at, until-before}
 use Rattle.gs_text.specs.Bytes.{is_white, is_sdc_mark}
 use Rattle.gs_text.specs.Runs.{until, is_newline, continues}
 use Rattle.gs_text.specs.Sdc.{sdc_front, braced_front, command_front, quote_front, ends_sdc_word, ends_braced_word, ends_sdc_text}
+use Rattle.gs_text.specs.Whole.{IsLoneQuote}
 use Rattle.gs_text.specs.declared.kinds.Kind.{Kind}
 use Rattle.gs_text.specs.declared.kinds.Kind.TheVariants.{Word, Mark}
 use Rattle.gs_text.specs.declared.kinds.Style.TheVariants.{Sdc}
@@ -21,22 +22,31 @@ not_braced_end c next e = grind (arith, nat_tests)
 not_word_end : (c next : ℕ) → ends_sdc_word c next ≡ false → is_white c ≡ false
 not_word_end c next e = grind (arith, nat_tests)
 
-braced_word : (c : ℕ) (cs : List ℕ) → is_white c ≡ false → IsFound Sdc true Word (until ends_braced_word cs + 1) (c ∷ cs)
-braced_word c cs solid = record {
+braced_goes_on : (c next : ℕ) → is_white c ≡ false → continues c next ≡ false → c == 125 ≡ false → ends_braced_word c next ≡ false
+braced_goes_on c next white joined mark = grind (arith, nat_tests)
+
+word_goes_on : (c next : ℕ) → is_white c ≡ false → continues c next ≡ false → is_sdc_mark c ≡ false → c == 34 ≡ false → ends_sdc_word c next ≡ false
+word_goes_on c next white joined mark quote = grind (arith, nat_tests)
+
+begun_by : (c : ℕ) (begun : Bool) → c == 35 && not begun ≡ false → c ≡ 35 → begun ≡ true
+begun_by c begun e hash = grind (arith, nat_tests)
+
+braced_word : (begun : Bool) (c : ℕ) (cs : List ℕ) → is_white c ≡ false → ends_braced_word c (slice_index cs 0) ≡ false → IsFound Sdc true begun Word (until ends_braced_word cs + 1) (c ∷ cs)
+braced_word begun c cs solid first = record {
   room = omega arith;
   some = omega arith;
   within = omega (arith, until-le-length ends_braced_word cs);
   solid = solid_run ends_braced_word not_braced_end c cs solid;
-  whole = run-ends ends_braced_word c cs;
+  whole = record { inside = run-inside ends_braced_word c cs first; whole = run-ends ends_braced_word c cs };
 }
 
-command_word : (c : ℕ) (cs : List ℕ) → is_white c ≡ false → IsFound Sdc false Word (until ends_sdc_word cs + 1) (c ∷ cs)
-command_word c cs solid = record {
+command_word : (begun : Bool) (c : ℕ) (cs : List ℕ) → is_white c ≡ false → ends_sdc_word c (slice_index cs 0) ≡ false → (c ≡ 35 → begun ≡ true) → IsFound Sdc false begun Word (until ends_sdc_word cs + 1) (c ∷ cs)
+command_word begun c cs solid first hash = record {
   room = omega arith;
   some = omega arith;
   within = omega (arith, until-le-length ends_sdc_word cs);
   solid = solid_run ends_sdc_word not_word_end c cs solid;
-  whole = run-ends ends_sdc_word c cs;
+  whole = (record { inside = run-inside ends_sdc_word c cs first; whole = run-ends ends_sdc_word c cs }, hash);
 }
 
 -- quotes
@@ -55,11 +65,44 @@ quote_within n bs e = elim (cases_lt n (length bs)) [
     zero_is : {x : ℕ} → x ≡ 0 → x ≡ 34 → ⊥
     zero_is z f = omega (arith, z, f)
 
-a_quote : (c : ℕ) (cs : List ℕ) → is_white c ≡ false → c == 34 ≡ true → Says Sdc false (c ∷ cs) (quote_front cs)
-a_quote c cs solid q =
+-- a quote without a partner on its line: where it ends, no quote but a newline stands
+text_end : (c : ℕ) → ends_sdc_text c 0 ≡ true → c == 34 ≡ false → c ≡ 10
+text_end c e q = grind (arith, nat_tests)
+
+quote_ends : (c : ℕ) → c ≡ 34 → ends_sdc_text c 0 ≡ false → ⊥
+quote_ends c q e = grind (arith, nat_tests)
+
+no_quote : (c : ℕ) → c == 34 ≡ false → c ≢ 34
+no_quote c e f = grind (arith, nat_tests)
+
+newline_first : (cs : List ℕ) → slice_index cs (until ends_sdc_text cs) == 34 ≡ false → (i : ℕ) → get_or cs i 0 ≡ 34 → (until ends_sdc_text cs < i) × (get_or cs (until ends_sdc_text cs) 0 ≡ 10)
+newline_first cs none i q =
+    let n : ℕ = until ends_sdc_text cs in
+    let within : i < length cs = quote_within i cs q in
+    elim (cases_lt i n) [
+      | inl lt ↦ absurd (quote_ends (get_or cs i 0) q (until-before ends_sdc_text cs i lt))
+      | inr ge ↦
+          let ten : get_or cs n 0 ≡ 10 = text_end (get_or cs n 0) (until-at ends_sdc_text cs (omega arith)) none in
+          elim (cases_lt n i) [
+            | inl lt ↦ (lt, ten)
+            | inr le ↦ let same : i ≡ n = omega arith in absurd (no_quote (get_or cs n 0) none (ap (λ k. get_or cs k 0) (sym same) ∙ q))
+          ]
+    ]
+
+lone_quote : (c : ℕ) (cs : List ℕ) → c == 34 ≡ true → slice_index cs (until ends_sdc_text cs) == 34 ≡ false → IsLoneQuote (c ∷ cs)
+lone_quote c cs q none = (is_quote_byte c q, later)
+  where
+    later : (k : ℕ) → 0 < k → slice_index (c ∷ cs) k ≡ 34 → (j : ℕ) × (j < k) × (slice_index (c ∷ cs) j ≡ 10)
+    later zero some e = absurd (omega arith)
+    later (suc i) some e =
+        let n = newline_first cs none i e in
+        (suc (until ends_sdc_text cs), omega (arith, n.0), n.1)
+
+a_quote : (begun : Bool) (c : ℕ) (cs : List ℕ) → is_white c ≡ false → c == 34 ≡ true → Says Sdc false begun (c ∷ cs) (quote_front cs)
+a_quote begun c cs solid q =
     let n : ℕ = until ends_sdc_text cs in
     let free : (k : ℕ) → 0 < k → k < n + 1 → (slice_index (c ∷ cs) k ≢ 34) × (slice_index (c ∷ cs) k ≢ 10) = λ k some lt. no_text_end (slice_index (c ∷ cs) k) (run-before ends_sdc_text c cs k some lt) in
-    either (Says Sdc false (c ∷ cs)) (slice_index cs n == 34) _ _
+    either (Says Sdc false begun (c ∷ cs)) (slice_index cs n == 34) _ _
     (λ e.
     let closes : slice_index cs n ≡ 34 = is_quote_byte (slice_index cs n) e in
     let lt : n < length cs = quote_within n cs closes in
@@ -70,15 +113,17 @@ a_quote c cs solid q =
       some = omega arith;
       within = omega arith;
       solid = tt;
-      whole = record {
-        size = omega arith;
-        opens = is_quote_byte c q;
-        closes = last;
-        inside = λ k some more. (free k some (omega arith)).0;
-        one_line = λ _. one_line n closes (λ k some lt. (free k some lt).1);
-      };
+      whole = (
+        record {
+          size = omega arith;
+          opens = is_quote_byte c q;
+          closes = last;
+          inside = λ k some more. (free k some (omega arith)).0;
+        },
+        one_line n closes (λ k some lt. (free k some lt).1),
+      );
     })
-    (λ _. a_mark Sdc false c cs solid)
+    (λ none. a_mark Sdc false begun c cs solid (inr (lone_quote c cs q none)))
   where
     not_ten : (x : ℕ) → x ≡ 34 → x ≢ 10
     not_ten x e f = omega (arith, e, f)
@@ -111,27 +156,32 @@ a_continuation c cs e = record {
   skipped = inr (record { size = refl; backslash = (continued c (slice_index cs 0) e).0; newline = (continued c (slice_index cs 0) e).1 });
 }
 
-command-says : (begun : Bool) (c : ℕ) (cs : List ℕ) → is_white c ≡ false → Says Sdc false (c ∷ cs) (command_front begun c cs)
-command-says begun c cs solid =
-    let P : Front → Type 0 = Says Sdc false (c ∷ cs) in
+command-says : (begun : Bool) (c : ℕ) (cs : List ℕ) → is_white c ≡ false → continues c (slice_index cs 0) ≡ false → Says Sdc false begun (c ∷ cs) (command_front begun c cs)
+command-says begun c cs solid joined =
+    let P : Front → Type 0 = Says Sdc false begun (c ∷ cs) in
     either P (c == 35 && not begun) _ _ (λ e. a_comment begun c cs e)
-    (λ _. either P (is_sdc_mark c) _ _ (λ _. a_mark Sdc false c cs solid)
-    (λ _. either P (c == 34) _ _ (λ e. a_quote c cs solid e)
-    (λ _. command_word c cs solid)))
+    (λ hash. either P (is_sdc_mark c) _ _ (λ e. a_mark Sdc false begun c cs solid (inl e))
+    (λ mark. either P (c == 34) _ _ (λ e. a_quote begun c cs solid e)
+    (λ quote. command_word begun c cs solid (word_goes_on c (slice_index cs 0) solid joined mark quote) (begun_by c begun hash))))
 
-braced-says : (c : ℕ) (cs : List ℕ) → is_white c ≡ false → Says Sdc true (c ∷ cs) (braced_front c cs)
-braced-says c cs solid = either (Says Sdc true (c ∷ cs)) (c == 125) _ _ (λ _. a_mark Sdc true c cs solid) (λ _. braced_word c cs solid)
+closing_brace : (c : ℕ) → c == 125 ≡ true → c ≡ 125
+closing_brace c e = grind (arith, nat_tests)
 
-by_braces : (braced begun : Bool) (c : ℕ) (cs : List ℕ) → is_white c ≡ false → Says Sdc braced (c ∷ cs) (cond braced (braced_front c cs) (command_front begun c cs))
-by_braces true begun c cs solid = braced-says c cs solid
-by_braces false begun c cs solid = command-says begun c cs solid
+braced-says : (begun : Bool) (c : ℕ) (cs : List ℕ) → is_white c ≡ false → continues c (slice_index cs 0) ≡ false → Says Sdc true begun (c ∷ cs) (braced_front c cs)
+braced-says begun c cs solid joined = either (Says Sdc true begun (c ∷ cs)) (c == 125) _ _
+    (λ e. a_mark Sdc true begun c cs solid (closing_brace c e))
+    (λ other. braced_word begun c cs solid (braced_goes_on c (slice_index cs 0) solid joined other))
 
-pub sdc-says : (braced begun : Bool) (c : ℕ) (cs : List ℕ) → Says Sdc braced (c ∷ cs) (sdc_front braced begun c cs)
+by_braces : (braced begun : Bool) (c : ℕ) (cs : List ℕ) → is_white c ≡ false → continues c (slice_index cs 0) ≡ false → Says Sdc braced begun (c ∷ cs) (cond braced (braced_front c cs) (command_front begun c cs))
+by_braces true begun c cs solid joined = braced-says begun c cs solid joined
+by_braces false begun c cs solid joined = command-says begun c cs solid joined
+
+pub sdc-says : (braced begun : Bool) (c : ℕ) (cs : List ℕ) → Says Sdc braced begun (c ∷ cs) (sdc_front braced begun c cs)
 sdc-says braced begun c cs =
-    let P : Front → Type 0 = Says Sdc braced (c ∷ cs) in
+    let P : Front → Type 0 = Says Sdc braced begun (c ∷ cs) in
     either P (is_white c) _ _ (λ e. e)
     (λ solid. either P (continues c (slice_index cs 0)) _ _ (λ e. a_continuation c cs e)
-    (λ _. by_braces braced begun c cs solid))
+    (λ joined. by_braces braced begun c cs solid joined))
 
 -- what is found doesn't end in a backslash directly before a newline
 abbrev pub Calm : List ℕ → Front → Type 0

@@ -1,9 +1,9 @@
 -- What stands in a cut text, by the walk: gaps between the pieces, and each piece whole.
-use Rattle.std.proofs.Common.{◌≡◌, ◌∙◌, sym, ap, refl, true, get_or, slice_index, ℕ, ◌+◌, ◌-◌, ◌==◌, List, [], ◌∷◌, Result, Ok, length, drop, arith, subst, inl, inr}
+use Rattle.std.proofs.Common.{◌≡◌, ◌↔◌, ◌∙◌, sym, ap, refl, Bool, true, get_or, slice_index, ℕ, ◌+◌, ◌-◌, ◌==◌, List, [], ◌∷◌, Result, Ok, length, drop, arith, subst, inl, inr}
 use Rattle.std.proofs.lemmas.List.{get_or-drop}
 use Rattle.gs_text.specs.Bytes.{is_white}
-use Rattle.gs_text.specs.Before.{in_braces}
-use Rattle.gs_text.specs.Cut.{pieces}
+use Rattle.gs_text.specs.Before.{has_begun, in_braces}
+use Rattle.gs_text.specs.Cut.{line_of, pieces}
 use Rattle.gs_text.specs.Gaps.{IsGap, IsSkipped, IsFilled, HasGaps}
 use Rattle.gs_text.specs.Whole.{IsWhole, AreWhole}
 use Rattle.gs_text.proofs.CutLaws.{Begins, piece_here}
@@ -12,21 +12,41 @@ use Rattle.gs_text.proofs.FrontLaws.{front-says}
 use Rattle.gs_text.proofs.Says.{Says, Skips, IsFound, IsPassed}
 use Rattle.gs_text.proofs.Walk.{Steps, walk_all}
 use Rattle.gs_text.specs.declared.cutter.Place.{Place}
+use Rattle.gs_text.specs.declared.kinds.Kind.{Kind}
+use Rattle.gs_text.specs.declared.kinds.Kind.TheVariants.{Word, Escaped, Text, Mark}
 use Rattle.gs_text.specs.declared.kinds.Piece.{Piece}
 use Rattle.gs_text.specs.declared.kinds.Style.{Style}
+use Rattle.gs_text.specs.declared.kinds.Style.TheVariants.{Verilog, Lib, Spef, Sdc}
 use Rattle.gs_text.specs.declared.kinds.TextErr.{TextErr}
 use Rattle.gs_text.specs.declared.scan.Front.{Front}
 use Rattle.gs_text.specs.declared.scan.Front.TheVariants.{Gap, Passed}
 
+-- a piece's own line tells as well whether its command has begun, where that matters
+pub same_begun : (style : Style) (braced : Bool) (line first latest : ℕ) (kind : Kind) (len : ℕ) (xs : List ℕ)
+    → IsWhole style braced (latest == first) kind len xs ↔ IsWhole style braced (latest == line_of style line first) kind len xs
+same_begun Verilog braced line first latest Word len xs = (λ h. h, λ h. h)
+same_begun Verilog braced line first latest Escaped len xs = (λ h. h, λ h. h)
+same_begun Verilog braced line first latest Text len xs = (λ h. h, λ h. h)
+same_begun Verilog braced line first latest Mark len xs = (λ h. h, λ h. h)
+same_begun Lib braced line first latest Word len xs = (λ h. h, λ h. h)
+same_begun Lib braced line first latest Escaped len xs = (λ h. h, λ h. h)
+same_begun Lib braced line first latest Text len xs = (λ h. h, λ h. h)
+same_begun Lib braced line first latest Mark len xs = (λ h. h, λ h. h)
+same_begun Spef braced line first latest Word len xs = (λ h. h, λ h. h)
+same_begun Spef braced line first latest Escaped len xs = (λ h. h, λ h. h)
+same_begun Spef braced line first latest Text len xs = (λ h. h, λ h. h)
+same_begun Spef braced line first latest Mark len xs = (λ h. h, λ h. h)
+same_begun Sdc braced line first latest kind len xs = (λ h. h, λ h. h)
+
 module _ (style : Style) (bs : List ℕ) where
   -- what begins at a place, said of the bytes from there on
-  pub says_here : (here : Place) (f : Front) → Begins style bs here f → Says style here.braced (drop here.at bs) f
+  pub says_here : (here : Place) (f : Front) → Begins style bs here f → Says style here.braced (here.latest == here.first) (drop here.at bs) f
   says_here here f b =
-      let P : Front → Type 0 = Says style here.braced (b.first ∷ b.rest) in
-      let Q : List ℕ → Type 0 = λ xs. Says style here.braced xs f in
+      let P : Front → Type 0 = Says style here.braced (here.latest == here.first) (b.first ∷ b.rest) in
+      let Q : List ℕ → Type 0 = λ xs. Says style here.braced (here.latest == here.first) xs f in
       subst Q (sym b.split) (subst P b.front_is (front-says style here.braced (here.latest == here.first) b.first b.rest))
 
-  slice_there : (at : ℕ) → slice_index (drop at bs) 0 ≡ slice_index bs at
+  pub slice_there : (at : ℕ) → slice_index (drop at bs) 0 ≡ slice_index bs at
   slice_there at = let e : at + 0 ≡ at = omega arith in get_or-drop at bs 0 0 ∙ ap (λ i. get_or bs i 0) e
 
   pub white_gap : (before : List Piece) (here : Place) → Begins style bs here Gap → IsGap style bs before here.at 1
@@ -88,9 +108,10 @@ module _ (style : Style) (bs : List ℕ) where
     at_piece = λ before here a kind len b pos within r later ps h.
         let p : Piece = piece_here style here kind len in
         let q : (qs : List Piece) × ((r ≡ Ok qs) × (ps ≡ p ∷ qs)) = onto_ok p r ps h in
-        let f : IsFound style here.braced kind len (b.first ∷ b.rest) = found style bs here kind len b in
+        let f : IsFound style here.braced (here.latest == here.first) kind len (b.first ∷ b.rest) = found style bs here kind len b in
         let size : here.at + len - here.at ≡ len = omega arith in
-        let whole : IsWhole style (in_braces bs before) kind (here.at + len - here.at) (drop here.at bs) = rw (size, b.split, ← a.braced) f.whole in
+        let whole : IsWhole style (in_braces bs before) (has_begun p.line before) kind (here.at + len - here.at) (drop here.at bs) =
+        rw (size, b.split, ← a.braced, ← a.latest) ((same_begun style here.braced here.line here.first here.latest kind len (b.first ∷ b.rest)).0 f.whole) in
         subst (AreWhole style bs before) (sym q.1.1) (whole, later q.0 q.1.0);
     at_comment = λ before here a len b pos within r later. later;
     at_fault = λ before here a f b e is ps h. cc h;

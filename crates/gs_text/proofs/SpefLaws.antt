@@ -2,7 +2,7 @@
 use Rattle.std.proofs.Common.{◌≡◌, ◌≢◌, ℕ, ◌+◌, slice_index, Bool, true, false, List, ◌∷◌, arith}
 use Rattle.std.proofs.lemmas.Bool.Decides.{nat_tests}
 use Rattle.gs_text.proofs.Says.{Says, IsFound, IsPassed, either, solid_run, rest_of_line}
-use Rattle.gs_text.proofs.Until.{until-le-length, run-ends}
+use Rattle.gs_text.proofs.Until.{until-le-length, run-ends, run-inside}
 use Rattle.gs_text.specs.Bytes.{is_white}
 use Rattle.gs_text.specs.Runs.{until, is_blank, is_newline, opens_line_comment}
 use Rattle.gs_text.specs.Spef.{spef_front}
@@ -13,13 +13,13 @@ use Rattle.gs_text.specs.declared.scan.Front.{Front}
 blank-white : (c next : ℕ) → is_blank c next ≡ false → is_white c ≡ false
 blank-white c next e = e
 
-a_word : (braced : Bool) (c : ℕ) (cs : List ℕ) → is_white c ≡ false → IsFound Spef braced Word (until is_blank cs + 1) (c ∷ cs)
-a_word braced c cs solid = record {
+a_word : (braced begun : Bool) (c : ℕ) (cs : List ℕ) → is_white c ≡ false → opens_line_comment c (slice_index cs 0) ≡ false → IsFound Spef braced begun Word (until is_blank cs + 1) (c ∷ cs)
+a_word braced begun c cs solid apart = record {
   room = omega arith;
   some = omega arith;
   within = omega (arith, until-le-length is_blank cs);
   solid = solid_run is_blank blank-white c cs solid;
-  whole = run-ends is_blank c cs;
+  whole = (record { inside = run-inside is_blank c cs solid; whole = run-ends is_blank c cs }, apart);
 }
 
 slashes : (c d : ℕ) → opens_line_comment c d ≡ true → (c ≡ 47) × (d ≡ 47)
@@ -37,9 +37,9 @@ a_comment c cs e =
       skipped = record { slash = b.0; slashes = b.1; rest = rest_of_line c cs (not_ten c b.0) };
     }
 
-pub spef-says : (braced : Bool) (c : ℕ) (cs : List ℕ) → Says Spef braced (c ∷ cs) (spef_front c cs)
-spef-says braced c cs =
-    let P : Front → Type 0 = Says Spef braced (c ∷ cs) in
+pub spef-says : (braced begun : Bool) (c : ℕ) (cs : List ℕ) → Says Spef braced begun (c ∷ cs) (spef_front c cs)
+spef-says braced begun c cs =
+    let P : Front → Type 0 = Says Spef braced begun (c ∷ cs) in
     either P (is_white c) _ _ (λ e. e)
     (λ solid. either P (opens_line_comment c (slice_index cs 0)) _ _ (λ e. a_comment c cs e)
-    (λ _. a_word braced c cs solid))
+    (λ apart. a_word braced begun c cs solid apart))

@@ -55,6 +55,11 @@ module _ (test : ℕ → ℕ → Bool) where
       let here : test (get_or cs k 0) (get_or cs (k + 1) 0) ≡ false = until-before cs k (omega arith) in
       simp add-one (simp add-one at here)
 
+  -- where it doesn't hold at the first byte either, it holds at none of the run
+  pub run-inside : (c : ℕ) (cs : List ℕ) → test c (slice_index cs 0) ≡ false → (k : ℕ) → k < until test cs + 1 → test (slice_index (c ∷ cs) k) (slice_index (c ∷ cs) (k + 1)) ≡ false
+  run-inside c cs e zero lt = e
+  run-inside c cs e (suc k) lt = run-before c cs (suc k) (omega arith) lt
+
   -- where the test holds nowhere, the run is all
   pub until-all : (bs : List ℕ) → ((k : ℕ) → k < length bs → test (get_or bs k 0) (get_or bs (k + 1) 0) ≡ false) → until test bs ≡ length bs
   until-all bs none = elim (cases_lt (until test bs) (length bs)) [

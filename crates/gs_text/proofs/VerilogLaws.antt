@@ -1,5 +1,5 @@
 -- What begins at a byte of a Verilog text.
-use Rattle.std.proofs.Common.{◌≡◌, ◌≢◌, ◌⊎◌, ◌∙◌, ap, refl, ℕ, suc, ◌+◌, ◌-◌, ◌<◌, ◌≤◌, ◌==◌, ◌&&◌, nat_lt, slice_index, get_or, length-drop, Bool, true, false, cond, List, [], ◌∷◌, length, drop, arith, inl, inr, subst, sym}
+use Rattle.std.proofs.Common.{◌≡◌, ◌≢◌, ◌⊎◌, ◌∙◌, ap, refl, ℕ, zero, suc, ◌+◌, ◌-◌, ◌<◌, ◌≤◌, ◌==◌, ◌&&◌, nat_lt, slice_index, get_or, length-drop, Bool, true, false, cond, List, [], ◌∷◌, length, drop, arith, inl, inr, subst}
 use Rattle.std.specs.List.{prefix_len}
 use Rattle.std.proofs.lemmas.Bool.Decides.{nat_tests}
 use Rattle.std.proofs.lemmas.Bool.{cases_lt}
@@ -11,7 +11,7 @@ use Rattle.gs_text.specs.Bytes.{is_white, is_digit, is_word_byte}
 use Rattle.gs_text.specs.Comments.{comment_front}
 use Rattle.gs_text.specs.Runs.{until, is_blank, is_newline, opens_comment, opens_line_comment}
 use Rattle.gs_text.specs.Verilog.{verilog_front, escaped_front, word_len, index_len, closed_len}
-use Rattle.gs_text.specs.Whole.{EndsWord}
+use Rattle.gs_text.specs.Whole.{IsLoneByte, IsVerilogWord}
 use Rattle.gs_text.specs.declared.kinds.Kind.TheVariants.{Word}
 use Rattle.gs_text.specs.declared.kinds.Style.TheVariants.{Verilog}
 use Rattle.gs_text.specs.declared.scan.Front.{Front}
@@ -94,64 +94,33 @@ module _ (test : ℕ → Bool) (word : (c : ℕ) → is_word_byte c ≡ true →
 word_byte-solid : (c : ℕ) → is_word_byte c ≡ true → is_white c ≡ false
 word_byte-solid c e = grind (arith, nat_tests)
 
--- an index ends in a bracket
-closed_len-last : (bs : List ℕ) → (closed_len bs ≡ 0) ⊎ (get_or bs (closed_len bs - 1) 0 ≡ 93)
-closed_len-last bs = by_case (nat_lt 0 (prefix_len is_digit bs) && slice_index bs (prefix_len is_digit bs) == 93) (prefix_len is_digit bs) refl
-  where
-    by_case : (b : Bool) (n : ℕ) → nat_lt 0 n && slice_index bs n == 93 ≡ b → (cond b (n + 1) 0 ≡ 0) ⊎ (get_or bs (cond b (n + 1) 0 - 1) 0 ≡ 93)
-    by_case true n e = let at : n + 1 - 1 ≡ n = omega arith in inr (ap (λ i. get_or bs i 0) at ∙ sym (closing_is (get_or bs n 0) n e))
-    by_case false n e = inl refl
-
-index_len-last : (bs : List ℕ) → (index_len bs ≡ 0) ⊎ (get_or bs (index_len bs - 1) 0 ≡ 93)
-index_len-last [] = inl refl
-index_len-last (c ∷ cs) = by_case (c == 91 && nat_lt 0 (closed_len cs)) refl
-  where
-    some : (n : ℕ) → c == 91 && nat_lt 0 n ≡ true → 0 < n
-    some n e = grind (arith, nat_tests)
-
-    by_case : (b : Bool) → c == 91 && nat_lt 0 (closed_len cs) ≡ b → (cond b (closed_len cs + 1) 0 ≡ 0) ⊎ (get_or (c ∷ cs) (cond b (closed_len cs + 1) 0 - 1) 0 ≡ 93)
-    by_case false e = inl refl
-    by_case true e =
-        let pos : 0 < closed_len cs = some (closed_len cs) e in
-        elim (closed_len-last cs) [
-          | inl z ↦ absurd (omega arith)
-          | inr last ↦
-              let at : closed_len cs + 1 - 1 ≡ suc (closed_len cs - 1) = omega arith in
-              inr (ap (λ i. get_or (c ∷ cs) i 0) at ∙ last)
-        ]
-
-word-stops : (cs : List ℕ) → is_word_byte (get_or cs (prefix_len is_word_byte cs) 0) ≡ false
+pub word-stops : (cs : List ℕ) → is_word_byte (get_or cs (prefix_len is_word_byte cs) 0) ≡ false
 word-stops cs = elim (cases_lt (prefix_len is_word_byte cs) (length cs)) [
   | inl lt ↦ prefix_len_stops is_word_byte cs 0 lt
   | inr le ↦ ap is_word_byte (get_or_past cs (prefix_len is_word_byte cs) 0 le)
 ]
 
--- a word ends in an index, or where neither a word's byte nor an index follows
-word-ends : (braced : Bool) (c : ℕ) (cs : List ℕ) → EndsWord Verilog braced (word_len cs + 1) (c ∷ cs)
-word-ends braced c cs =
-    let n : ℕ = prefix_len is_word_byte cs in
-    let m : ℕ = index_len (drop n cs) in
-    let bare : m ≡ 0 → EndsWord Verilog braced (word_len cs + 1) (c ∷ cs) = λ none.
-    let len : suc n ≡ word_len cs + 1 = omega arith in
-    let P : ℕ → Type 0 = λ len. EndsWord Verilog braced len (c ∷ cs) in
-    subst P len (inr (word-stops cs, none)) in
-    elim (cases_lt 0 m) [
-      | inl some ↦ elim (index_len-last (drop n cs)) [
-        | inl none ↦ bare none
-        | inr last ↦
-            let at : word_len cs + 1 - 1 ≡ suc (n + (m - 1)) = omega arith in
-            inl (ap (λ i. get_or (c ∷ cs) i 0) at ∙ sym (get_or-drop n cs (m - 1) 0) ∙ last)
-      ]
-      | inr le ↦ bare (omega arith)
-    ]
+-- all bytes of words that follow one another, and the index after them
+whole_word : (c : ℕ) (cs : List ℕ) → is_word_byte c ≡ true → IsVerilogWord (word_len cs + 1) (c ∷ cs)
+whole_word c cs e = record {
+  run = suc (prefix_len is_word_byte cs);
+  some = omega arith;
+  inside = inside;
+  whole = word-stops cs;
+  index = omega arith;
+}
+  where
+    inside : (k : ℕ) → k < suc (prefix_len is_word_byte cs) → is_word_byte (slice_index (c ∷ cs) k) ≡ true
+    inside zero lt = e
+    inside (suc k) lt = prefix_len_passes is_word_byte cs k 0 (omega arith)
 
-a_word : (braced : Bool) (c : ℕ) (cs : List ℕ) → is_word_byte c ≡ true → IsFound Verilog braced Word (word_len cs + 1) (c ∷ cs)
-a_word braced c cs e = record {
+a_word : (braced begun : Bool) (c : ℕ) (cs : List ℕ) → is_word_byte c ≡ true → IsFound Verilog braced begun Word (word_len cs + 1) (c ∷ cs)
+a_word braced begun c cs e = record {
   room = omega arith;
   some = omega arith;
   within = omega (arith, word_len-fits cs);
   solid = after_first is_white c (word_len cs) cs (word_byte-solid c e) (word_len-free is_white word_byte-solid refl refl cs);
-  whole = inr (word-ends braced c cs);
+  whole = whole_word c cs e;
 }
 
 -- an escaped name
@@ -164,16 +133,43 @@ backslash c e = grind (arith, nat_tests)
 lt_true : (n : ℕ) → nat_lt 0 n ≡ true → 0 < n
 lt_true n e = grind (arith, nat_tests)
 
-an_escaped : (braced : Bool) (c : ℕ) (cs : List ℕ) → is_white c ≡ false → c == 92 ≡ true → Says Verilog braced (c ∷ cs) (escaped_front cs)
-an_escaped braced c cs solid e = either (Says Verilog braced (c ∷ cs)) (nat_lt 0 (until is_blank cs)) _ _
+lt_false : (n : ℕ) → nat_lt 0 n ≡ false → n ≡ 0
+lt_false n e = grind (arith, nat_tests)
+
+-- a backslash with nothing after it but white or the end
+alone : (c : ℕ) (cs : List ℕ) → until is_blank cs ≡ 0 → (length (c ∷ cs) ≡ 1) ⊎ (is_white (slice_index (c ∷ cs) 1) ≡ true)
+alone c cs none = elim (run-ends is_blank c cs) [
+  | inl e ↦ inl (omega arith)
+  | inr e ↦
+      let at : until is_blank cs + 1 ≡ 1 = omega arith in
+      let P : ℕ → Type 0 = λ i. is_white (slice_index (c ∷ cs) i) ≡ true in
+      inr (subst P at e)
+]
+
+-- a byte that begins nothing else
+lone : (c : ℕ) (cs : List ℕ) → is_white c ≡ false → is_word_byte c ≡ false → opens_line_comment c (slice_index cs 0) ≡ false → opens_comment c (slice_index cs 0) ≡ false
+    → (c ≡ 92 → (length (c ∷ cs) ≡ 1) ⊎ (is_white (slice_index (c ∷ cs) 1) ≡ true)) → IsLoneByte (c ∷ cs)
+lone c cs solid apart line comment alone = record { solid = solid; apart = apart; line_comment = line; comment = comment; alone = alone }
+
+no_backslash : (c : ℕ) → c == 92 ≡ false → c ≢ 92
+no_backslash c e f = grind (arith, nat_tests)
+
+an_escaped : (braced begun : Bool) (c : ℕ) (cs : List ℕ) → is_white c ≡ false → c == 92 ≡ true → ((c ≡ 92 → (length (c ∷ cs) ≡ 1) ⊎ (is_white (slice_index (c ∷ cs) 1) ≡ true)) → IsLoneByte (c ∷ cs))
+    → Says Verilog braced begun (c ∷ cs) (escaped_front cs)
+an_escaped braced begun c cs solid e mark = either (Says Verilog braced begun (c ∷ cs)) (nat_lt 0 (until is_blank cs)) _ _
     (λ some. record {
       room = omega arith;
       some = omega arith;
       within = omega (arith, until-le-length is_blank cs);
       solid = (omega (arith, lt_true (until is_blank cs) some), solid_run is_blank blank-white c cs solid);
-      whole = (backslash c e, run-ends is_blank c cs);
+      whole = record {
+        backslash = backslash c e;
+        some = omega (arith, lt_true (until is_blank cs) some);
+        inside = solid_run is_blank blank-white c cs solid;
+        whole = run-ends is_blank c cs;
+      };
     })
-    (λ _. a_mark Verilog braced c cs solid)
+    (λ none. a_mark Verilog braced begun c cs solid (mark (λ _. alone c cs (lt_false (until is_blank cs) none))))
 
 -- comments
 slashes : (c d : ℕ) → opens_line_comment c d ≡ true → (c ≡ 47) × (d ≡ 47)
@@ -194,25 +190,25 @@ line_comment braced c cs e =
       skipped = inl (record { slash = b.0; slashes = b.1; rest = rest_of_line c cs (not_ten c b.0) });
     }
 
-by_comment : (braced : Bool) (bs : List ℕ) (f : Front) → CommentSays bs f → Says Verilog braced bs f
-by_comment braced bs Gap s = absurd s
-by_comment braced bs (Found kind len) s = absurd s
-by_comment braced bs (Passed len) s = record { some = s.0; within = s.1; skipped = inr s.2 }
-by_comment braced bs OpenString s = absurd s
-by_comment braced bs OpenComment s = s
+by_comment : (braced begun : Bool) (bs : List ℕ) (f : Front) → CommentSays bs f → Says Verilog braced begun bs f
+by_comment braced begun bs Gap s = absurd s
+by_comment braced begun bs (Found kind len) s = absurd s
+by_comment braced begun bs (Passed len) s = record { some = s.0; within = s.1; skipped = inr s.2 }
+by_comment braced begun bs OpenString s = absurd s
+by_comment braced begun bs OpenComment s = s
 
-a_comment : (braced : Bool) (c : ℕ) (cs : List ℕ) → opens_comment c (slice_index cs 0) ≡ true → Says Verilog braced (c ∷ cs) (comment_front (drop 1 cs))
-a_comment braced c [] e = absurd (omega (arith, (slash_star c 0 e).1))
-a_comment braced c (d ∷ ds) e =
+a_comment : (braced begun : Bool) (c : ℕ) (cs : List ℕ) → opens_comment c (slice_index cs 0) ≡ true → Says Verilog braced begun (c ∷ cs) (comment_front (drop 1 cs))
+a_comment braced begun c [] e = absurd (omega (arith, (slash_star c 0 e).1))
+a_comment braced begun c (d ∷ ds) e =
     let b : (c ≡ 47) × (d ≡ 42) = slash_star c d e in
-    by_comment braced (c ∷ d ∷ ds) (comment_front ds) (comment_says c d ds b.0 b.1)
+    by_comment braced begun (c ∷ d ∷ ds) (comment_front ds) (comment_says c d ds b.0 b.1)
 
-pub verilog-says : (braced : Bool) (c : ℕ) (cs : List ℕ) → Says Verilog braced (c ∷ cs) (verilog_front c cs)
-verilog-says braced c cs =
-    let P : Front → Type 0 = Says Verilog braced (c ∷ cs) in
+pub verilog-says : (braced begun : Bool) (c : ℕ) (cs : List ℕ) → Says Verilog braced begun (c ∷ cs) (verilog_front c cs)
+verilog-says braced begun c cs =
+    let P : Front → Type 0 = Says Verilog braced begun (c ∷ cs) in
     either P (is_white c) _ _ (λ e. e)
-    (λ solid. either P (is_word_byte c) _ _ (λ e. a_word braced c cs e)
-    (λ _. either P (opens_line_comment c (slice_index cs 0)) _ _ (λ e. line_comment braced c cs e)
-    (λ _. either P (opens_comment c (slice_index cs 0)) _ _ (λ e. a_comment braced c cs e)
-    (λ _. either P (c == 92) _ _ (λ e. an_escaped braced c cs solid e)
-    (λ _. a_mark Verilog braced c cs solid)))))
+    (λ solid. either P (is_word_byte c) _ _ (λ e. a_word braced begun c cs e)
+    (λ apart. either P (opens_line_comment c (slice_index cs 0)) _ _ (λ e. line_comment braced c cs e)
+    (λ line. either P (opens_comment c (slice_index cs 0)) _ _ (λ e. a_comment braced begun c cs e)
+    (λ comment. either P (c == 92) _ _ (λ e. an_escaped braced begun c cs solid e (lone c cs solid apart line comment))
+    (λ other. a_mark Verilog braced begun c cs solid (lone c cs solid apart line comment (λ e. absurd (no_backslash c other e))))))))

@@ -1,5 +1,5 @@
 -- The pieces of a text: from the front on, white is passed over, and what begins at a byte that no piece has taken is a
--- piece, or the text's fault.
+-- piece, or the text's fault. `IsCutting` says of the same pieces what they are, and the laws of a text that the two agree.
 use Rattle.std.specs.Prelude.{◌≡◌, ℕ, zero, suc, ◌+◌, ◌==◌, List, [], ◌∷◌, ◌++◌, Result, Ok, Err, if◌then◌else◌}
 use Rattle.gs_text.specs.Before.{in_braces, has_begun}
 use Rattle.gs_text.specs.Front.{front}

@@ -11,7 +11,7 @@ use Rattle.gs_text.specs.declared.kinds.Style.TheVariants.{Verilog, Lib, Spef, S
 -- the place stands outside of braces, and no piece of its command before it; the pieces before are given with the latest first
 pub record BeginsCommand (bytes : List ℕ) (before : List Piece) (at : ℕ) : Type 0 where
   pub line : ℕ
-  pub command : IsCommandLine bytes at line
+  pub command : IsCommandLine bytes before at line
   pub first : latest_line before ≢ line
   pub outside : in_braces bytes before ≡ false
 

@@ -3,6 +3,7 @@ pub mod Bytes
 pub mod Comments
 pub mod Cut
 pub mod Cutter
+pub mod Cutting
 pub mod Faults
 pub mod Front
 pub mod Gaps

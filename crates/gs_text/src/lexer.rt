@@ -7,7 +7,7 @@ ghost use Rattle.gs_text.specs.Bytes.{max_text};
 ghost use Rattle.gs_text.specs.Cut.{ComesIn, Fails, pieces};
 ghost use Rattle.gs_text.specs.Faults.{HasFault, IsRefusedBy};
 ghost use Rattle.gs_text.specs.Gaps.{HasGaps};
-ghost use Rattle.gs_text.specs.Lines.{HasLine};
+ghost use Rattle.gs_text.specs.Lines.{HaveLines};
 ghost use Rattle.gs_text.specs.Pieces.{HasGoodText, InOrder, LiesIn, closing_len, opening_len, text_of};
 ghost use Rattle.gs_text.specs.Whole.{AreWhole};
 ghost use Rattle.gs_text.specs.declared.kinds.TextErr.{TextErr};
@@ -24,7 +24,8 @@ use std::alloc::Global;
 /// Verilog and Lib, where a comment between slash and star that begins at byte `at` has none. `Mem` where memory ran out.
 pub fn pieces(alloc: Global, style: Style, bytes: &[u8]) -> Result<Vec<Piece>, TextErr>
     requires { length bytes.now ≤ max_text }
-    // The pieces are exactly those of the text, and an error is the text's own, or memory ran out.
+    // The pieces are exactly those of the text, and an error is the text's own, or memory ran out. The clauses `inside`, `gaps`,
+    // `maximal` and `lines` pin them as well (`each_text_is_cut_alone`).
     ensures exact { MatchResult result (λ v. pieces style bytes.now ≡ Ok v.items) (λ e. Fails e (pieces style bytes.now)) }
     // Each error comes by its cause,
     ensures cause { IfErr result (λ e. HasFault style bytes.now e ⊎ (e ≡ TextErr.Mem)) }
@@ -39,10 +40,11 @@ pub fn pieces(alloc: Global, style: Style, bytes: &[u8]) -> Result<Vec<Piece>, T
     // Between the pieces, before the first and after the last stand white, comments and continued line ends alone; a comment
     // in SDC begins its command.
     ensures gaps { IfOk result (λ v. HasGaps style bytes.now [] 0 v.items) }
-    // Each piece is whole: no word and no escaped name could be longer, and a string ends at the first quote.
+    // Each piece is whole: it has the bytes that its kind has in the style, and goes on as far as it can; a string ends at the
+    // first quote.
     ensures maximal { IfOk result (λ v. AreWhole style bytes.now [] v.items) }
     // A piece's line is that on which it begins, or on which its command begins.
-    ensures lines { IfOk result (λ v. All (HasLine style bytes.now) v.items) }
+    ensures lines { IfOk result (λ v. HaveLines style bytes.now [] v.items) }
     // There are no more pieces than bytes.
     ensures few { IfOk result (λ v. length v.items ≤ length bytes.now) }
     // A word or an escaped name has a byte, and no white.

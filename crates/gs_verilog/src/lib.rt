@@ -25,6 +25,7 @@
 mod build;
 mod driven;
 mod error;
+mod law;
 mod machine;
 mod names;
 mod netlist;
@@ -36,6 +37,7 @@ mod reader;
 mod tests;
 
 pub use error::VerilogErr;
+pub use law::each_text_is_decided;
 pub use netlist::Netlist;
 pub use parts::{Link, Links, Port, Ports, RawInst, RawInsts};
 pub use read::read_netlist;

@@ -35,3 +35,9 @@ returns-clause-fronts c = same_fronts
 
 pub returns-then-names-gt-NAMES-clause-fronts : goal.returns-then-names-gt-NAMES-clause-fronts
 returns-then-names-gt-NAMES-clause-fronts c = same_fronts
+
+pub returns-clause-function : goal.returns-clause-function
+returns-clause-function c =
+    let bytes = c.args.bytes.now in
+    let names = c.args.names.now in
+    subst (Gives c.read.result) (sym (few bytes names (omega arith))) c.read.ensures
