@@ -15,7 +15,7 @@ front_none edges n = record {
 }
 
 -- the edge leads into another node
-front_else : (edges : List Edge) (k n p : ℕ) → ((edge_at edges k).to ≡ n → ⊥) → IsShortestFront edges k n p → IsShortestFront edges (k + 1) n p
+pub front_else : (edges : List Edge) (k n p : ℕ) → ((edge_at edges k).to ≡ n → ⊥) → IsShortestFront edges k n p → IsShortestFront edges (k + 1) n p
 front_else edges k n p ne f = record {
   within = omega (arith, f.within);
   none_past = λ i above below. by_case i above below (cases_eq i k);
@@ -27,7 +27,7 @@ front_else edges k n p ne f = record {
     by_case i above below (inr other) = f.none_past i above (omega arith)
 
 -- the edge leads into the node
-front_here : (edges : List Edge) (k n : ℕ) → (edge_at edges k).to ≡ n → IsShortestFront edges (k + 1) n (k + 1)
+pub front_here : (edges : List Edge) (k n : ℕ) → (edge_at edges k).to ≡ n → IsShortestFront edges (k + 1) n (k + 1)
 front_here edges k n e = record {
   within = omega arith;
   none_past = λ i above below. absurd (omega arith);

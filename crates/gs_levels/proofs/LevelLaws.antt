@@ -21,7 +21,7 @@ above-le (e ∷ edges) level n b h = by_case (cases_eq e.to n) (above-le edges l
     by_case (inr else) rest = rw (ne_eqb e.to n else) rest
 
 -- each edge into a node counts
-above-ge : (edges : List Edge) (level : List ℕ) (n i : ℕ) → i < length edges → (edge_at edges i).to ≡ n → slice_index level (edge_at edges i).from + 1 ≤ above edges level n
+pub above-ge : (edges : List Edge) (level : List ℕ) (n i : ℕ) → i < length edges → (edge_at edges i).to ≡ n → slice_index level (edge_at edges i).from + 1 ≤ above edges level n
 above-ge [] level n i li into = absurd (omega arith)
 above-ge (e ∷ edges) level n zero li into = rw (eq-eqb e.to n into) (omega arith)
 above-ge (e ∷ edges) level n (suc i) li into = by_case (cases_eq e.to n) (above-ge edges level n i (omega arith) into)

@@ -1,5 +1,9 @@
 mod CycleLaws
+mod Decided
 mod IncomingLaws
 mod LevelLaws
+mod OneAnswer
 mod OrderLaws
+mod Orders
+mod Rings
 mod SearchLaws

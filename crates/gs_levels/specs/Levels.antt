@@ -32,3 +32,15 @@ pub record IsCycle (edges : List Edge) (cycle : List ℕ) : Type 0 where
   pub least : (k : ℕ) → k < length cycle → slice_index cycle 0 ≤ slice_index cycle k
   pub next : (k : ℕ) → k + 1 < length cycle → HasEdge edges (slice_index cycle k) (slice_index cycle (k + 1))
   pub closes : HasEdge edges (slice_index cycle (length cycle - 1)) (slice_index cycle 0)
+
+-- the nodes have levels, and an order by them
+pub record HasLevels (nodes : ℕ) (edges : List Edge) : Type 0 where
+  pub level : List ℕ
+  pub order : List ℕ
+  pub leveled : IsLeveled nodes edges level
+  pub ordered : IsOrder level order
+
+-- there is a cycle
+pub record HasCycle (edges : List Edge) : Type 0 where
+  pub cycle : List ℕ
+  pub found : IsCycle edges cycle

@@ -11,8 +11,8 @@
 //! Nothing recurses, so the depth of a graph costs no stack.
 //!
 //! - `graph`: the graph and its edges. - `incoming`: the edges into each node. - `search`: the search against the edges.
-//! - `cycle`: from the nodes on the stack to a cycle. - `order`: the nodes by level. What the answers mean stands in
-//!   `specs/Graph.antt` and `specs/Levels.antt`.
+//! - `cycle`: from the nodes on the stack to a cycle. - `order`: the nodes by level. - `law`: what holds of every graph,
+//!   whatever a call answers. What the answers mean stands in `specs/Graph.antt` and `specs/Levels.antt`.
 #![tactic(auto)]
 
 mod cycle;
@@ -20,12 +20,14 @@ mod edges;
 mod find;
 mod graph;
 mod incoming;
+mod law;
 mod order;
 mod progress;
 mod search;
 
 pub use find::{LevelErr, Leveled, levels};
 pub use graph::{Edge, Graph, Numbers, Pairs};
+pub use law::each_graph_is_decided;
 
 #[cfg(test)]
 mod tests;
