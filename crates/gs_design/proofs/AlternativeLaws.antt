@@ -5,12 +5,14 @@ use Rattle.std.specs.BTreeMap.{insert_entry}
 use Rattle.std.specs.FinMap.{nat_cmp-IsAntisymmetric, slice_cmp-IsAntisymmetric}
 use Rattle.std.specs.List.{list_any, range_with_len}
 use Rattle.std.specs.Map.{values_of}
-use Rattle.std.specs.Ordering.{int_cmp, match_ordering, nat_cmp, ordering_then}
+use Rattle.std.specs.Ordering.{int_cmp, match_ordering, nat_cmp, ordering_reverse, ordering_then}
 use Rattle.std.specs.Cmp.Lexicographic.{pointwise, slice_cmp}
 use Rattle.std.specs.Str.{bytes_eq}
 use Rattle.std.specs.declared.cmp.Ordering.{Ordering}
 use Rattle.std.specs.declared.cmp.Ordering.TheVariants.{Less, Equal, Greater}
 use Rattle.std.proofs.lemmas.Bool.{eq-eqb, eqb-true, false≢true}
+use Rattle.std.specs.Cmp.{IsTotalOrder}
+use Rattle.std.proofs.lemmas.Cmp.{int_cmp_total, nat_list_cmp_total, on_total, then_total}
 use Rattle.std.proofs.lemmas.List.Folds.{list_any_at}
 use Rattle.std.proofs.lemmas.List.{length-map}
 use Rattle.std.proofs.lemmas.List.Elements.{All-filter}
@@ -23,6 +25,7 @@ use Rattle.gs_design.specs.Cell.{is_gate, pin_name}
 use Rattle.gs_design.specs.declared.kind.CellKind.{CellKind}
 use Rattle.gs_design.specs.declared.kind.CellKind.TheVariants.{Gate, Flop}
 use Rattle.gs_design.specs.Cells.{cell_at, cell_name, no_cell}
+use Rattle.gs_design.specs.Class.{AreAlternativesOf, IsAmong}
 use Rattle.gs_design.specs.Library.{IsLibrary}
 use Rattle.gs_design.specs.declared.cell.Cell.{Cell}
 
@@ -132,6 +135,29 @@ module _ {K : Type 0} (cmp : K → K → Ordering) where
       by_order Equal ne rest = absurd (ne refl)
       by_order Greater ne rest = all-cons P e (insert_entry cmp es k v) (all-head P e es h) rest
 
+  -- where the keys rise and none is as the new one, they rise still
+  abbrev IsBelow : K × ℕ → K × ℕ → Type 0
+  IsBelow x y = cmp x.0 y.0 ≡ Less
+
+  rise-insert : IsTotalOrder cmp → (es : List (K × ℕ)) (k : K) (v : ℕ) → All (λ (e : K × ℕ). cmp k e.0 ≢ Equal) es → AllPairs IsBelow es → AllPairs IsBelow (insert_entry cmp es k v)
+  rise-insert o [] k v new h = λ i j d ij lt. absurd (omega arith)
+  rise-insert o (e ∷ es) k v new h =
+      by_order (cmp k e.0) refl (all-head (λ (x : K × ℕ). cmp k x.0 ≢ Equal) e es new) (rise-insert o es k v rest (pairs-tail IsBelow e es h))
+    where
+      rest : All (λ (x : K × ℕ). cmp k x.0 ≢ Equal) es
+      rest = all-tail (λ (x : K × ℕ). cmp k x.0 ≢ Equal) e es new
+
+      above : All (IsBelow e) es
+      above = pairs-head IsBelow e es h
+
+      by_order : (r : Ordering) → cmp k e.0 ≡ r → r ≢ Equal → AllPairs IsBelow (insert_entry cmp es k v)
+          → AllPairs IsBelow (match_ordering r ((k, v) ∷ e ∷ es) ((e.0, v) ∷ es) (e ∷ insert_entry cmp es k v))
+      by_order Less is ne later = AllPairs-cons IsBelow (k, v) (e ∷ es)
+          (all-cons (IsBelow (k, v)) e es is (λ i d lt. o.trans k e.0 (slice_index_or es i d).0 is (above i d lt))) h
+      by_order Equal is ne later = absurd (ne refl)
+      by_order Greater is ne later = AllPairs-cons IsBelow e (insert_entry cmp es k v)
+          (all-insert (IsBelow e) es k v rest above (o.antisymm e.0 k ∙ ap ordering_reverse is)) later
+
 -- Cells put in order one after another.
 module _ (cells : List Cell) where
   abbrev put : List ((ℤ × List ℕ) × ℕ) → ℕ → List ((ℤ × List ℕ) × ℕ)
@@ -182,6 +208,47 @@ module _ (cells : List Cell) where
           rw (subst P (eqb-true c q eb) (has_new rank_cmp es (rank_key (cell_at cells c)) c)) refl
       now false false ea eb t = rw t (or-true (list_any (λ x. x == q) (values_of (put es c))))
 
+  -- the keys rise, and each is its cell's
+  rank_total : IsTotalOrder rank_cmp
+  rank_total = then_total {R = λ x y. int_cmp x.0 y.0} {S = λ x y. slice_cmp nat_cmp x.1 y.1} (on_total (λ (x : ℤ × List ℕ). x.0) int_cmp_total) (on_total (λ (x : ℤ × List ℕ). x.1) nat_list_cmp_total)
+
+  abbrev IsKeyed : (ℤ × List ℕ) × ℕ → Type 0
+  IsKeyed e = e.0 ≡ rank_key (cell_at cells e.1)
+
+  abbrev IsRankedBelow : ℕ → ℕ → Type 0
+  IsRankedBelow x y = rank_cmp (rank_key (cell_at cells x)) (rank_key (cell_at cells y)) ≡ Less
+
+  record AreRanked (es : List ((ℤ × List ℕ) × ℕ)) : Type 0 where
+    rise : AllPairs (IsBelow rank_cmp) es
+    keyed : All IsKeyed es
+
+  ranked-all : (cs : List ℕ) (es : List ((ℤ × List ℕ) × ℕ)) → All (AreNew cs) es → AllPairs Differ cs → AreRanked es → AreRanked (fold put es cs)
+  ranked-all [] es new f h = h
+  ranked-all (c ∷ cs) es new f h =
+      ranked-all cs (put es c)
+      (all-insert rank_cmp (AreNew cs) es (rank_key (cell_at cells c)) c fresh (λ k d lt. all-tail (λ y. rank_cmp (rank_key (cell_at cells y)) (slice_index_or es k d).0 ≢ Equal) c cs (new k d lt)) (pairs-head Differ c cs f))
+      (pairs-tail Differ c cs f)
+      (record {
+        rise = rise-insert rank_cmp rank_total es (rank_key (cell_at cells c)) c fresh h.rise;
+        keyed = all-insert rank_cmp IsKeyed es (rank_key (cell_at cells c)) c fresh h.keyed refl;
+      })
+    where
+      fresh : All (λ (e : (ℤ × List ℕ) × ℕ). rank_cmp (rank_key (cell_at cells c)) e.0 ≢ Equal) es
+      fresh k d lt = all-head (λ y. rank_cmp (rank_key (cell_at cells y)) (slice_index_or es k d).0 ≢ Equal) c cs (new k d lt)
+
+  values_rise : (es : List ((ℤ × List ℕ) × ℕ)) → AreRanked es → AllPairs IsRankedBelow (values_of es)
+  values_rise es h i j d ij lt =
+      let many : length (values_of es) ≡ length es = length-map es (λ (e : (ℤ × List ℕ) × ℕ). e.1) in
+      let j_in : j < length es = omega arith in
+      let filler : (ℤ × List ℕ) × ℕ = (rank_key (cell_at cells d), d) in
+      let value_i : slice_index_or (values_of es) i d ≡ (slice_index_or es i filler).1 = get_or-map (λ (e : (ℤ × List ℕ) × ℕ). e.1) es i filler in
+      let value_j : slice_index_or (values_of es) j d ≡ (slice_index_or es j filler).1 = get_or-map (λ (e : (ℤ × List ℕ) × ℕ). e.1) es j filler in
+      let key_i : (slice_index_or es i filler).0 ≡ rank_key (cell_at cells (slice_index_or es i filler).1) = h.keyed i filler (omega arith) in
+      let key_j : (slice_index_or es j filler).0 ≡ rank_key (cell_at cells (slice_index_or es j filler).1) = h.keyed j filler j_in in
+      let From : ℤ × List ℕ → Type 0 = λ k. rank_cmp k (slice_index_or es j filler).0 ≡ Less in
+      let To : ℤ × List ℕ → Type 0 = λ k. rank_cmp (rank_key (cell_at cells (slice_index_or es i filler).1)) k ≡ Less in
+      rw (value_i, value_j) (subst To key_j (subst From key_i (h.rise i j filler ij j_in)))
+
   numbers_apart : AllPairs (λ x y. x ≢ y) (range_with_len 0 (length cells))
   numbers_apart i j d ij lt =
       let j_in : j < length cells = omega (arith, length-range_with_len 0 (length cells)) in
@@ -208,6 +275,10 @@ module _ (cells : List Cell) where
     has_itself c lt = has-all c (range_with_len 0 (length cells)) [] (λ k d l. absurd (omega arith)) keys_differ
         (list_any_at (λ x. x == c) (range_with_len 0 (length cells)) c 0 (omega (arith, length-range_with_len 0 (length cells)))
         (eq-eqb (slice_index_or (range_with_len 0 (length cells)) c 0) c (get_or-range_with_len 0 (length cells) c 0 lt ∙ omega arith)))
+
+    ranked_rise : AllPairs IsRankedBelow (ranked cells)
+    ranked_rise = values_rise (fold put [] (range_with_len 0 (length cells))) (ranked-all (range_with_len 0 (length cells)) [] (λ k d l. absurd (omega arith)) keys_differ
+        (record { rise = λ i j d ij l. absurd (omega arith); keyed = λ k d l. absurd (omega arith) }))
 
   count-map : (q : Cell → Bool) (cs : List ℕ) → length (filter (λ x. q (cell_at cells x)) cs) ≡ length (filter q (map (cell_at cells) cs))
   count-map q [] = refl
@@ -263,7 +334,7 @@ module _ (cells : List Cell) (slew_default : Option ℤ) (l : IsLibrary slew_def
   abbrev passes : ℕ → Bool
   passes x = alike (cell_at cells c) (cell_at cells x)
 
-  pub few : length (alternatives cells c) ≤ 1024
+  few : length (alternatives cells c) ≤ 1024
   few = by_test (is_sizable (cell_at cells c))
     where
       counted : length (filter passes (range_with_len 0 (length cells))) ≡ class_size cells (cell_at cells c)
@@ -273,14 +344,14 @@ module _ (cells : List Cell) (slew_default : Option ℤ) (l : IsLibrary slew_def
       by_test true = omega (arith, count-all cells passes (range_with_len 0 (length cells)) [], counted, l.classes c no_cell lt)
       by_test false = omega arith
 
-  pub inside : All (λ x. x < length cells) (alternatives cells c)
+  inside : All (λ x. x < length cells) (alternatives cells c)
   inside = by_test (is_sizable (cell_at cells c))
     where
       by_test : (b : Bool) → All (λ x. x < length cells) (if b then filter passes (ranked cells) else c ∷ [])
       by_test true = All-filter passes (λ x. x < length cells) (ranked cells) (inside-all cells (λ x. x < length cells) (range_with_len 0 (length cells)) [] (λ k d h. absurd (omega arith)) (numbers_in cells))
       by_test false = all-cons (λ x. x < length cells) c [] lt (λ k d h. absurd (omega arith))
 
-  pub differ : AllPairs (λ x y. x ≢ y) (alternatives cells c)
+  differ : AllPairs (λ x y. x ≢ y) (alternatives cells c)
   differ = by_test (is_sizable (cell_at cells c))
     where
       by_test : (b : Bool) → AllPairs (λ x y. x ≢ y) (if b then filter passes (ranked cells) else c ∷ [])
@@ -288,16 +359,49 @@ module _ (cells : List Cell) (slew_default : Option ℤ) (l : IsLibrary slew_def
           (apart-all cells (range_with_len 0 (length cells)) [] (λ i j d ij h. absurd (omega arith)) (λ k d h. absurd (omega arith)) (numbers_apart cells))
       by_test false = λ i j d ij h. absurd (omega arith)
 
-  pub itself : list_any (λ x. x == c) (alternatives cells c) ≡ true
+  itself : list_any (λ x. x == c) (alternatives cells c) ≡ true
   itself = by_test (is_sizable (cell_at cells c)) refl
     where
       by_test : (b : Bool) → is_sizable (cell_at cells c) ≡ b → list_any (λ x. x == c) (if b then filter passes (ranked cells) else c ∷ []) ≡ true
       by_test true e = has-filter passes c (ranked cells) (alike-self (cell_at cells c) e) (has_itself cells l.differ c lt)
       by_test false e = rw (eq-eqb c c refl) refl
 
-  pub are_alike : is_sizable (cell_at cells c) ≡ true → All (λ x. alike (cell_at cells c) (cell_at cells x) ≡ true) (alternatives cells c)
+  are_alike : is_sizable (cell_at cells c) ≡ true → All (λ x. alike (cell_at cells c) (cell_at cells x) ≡ true) (alternatives cells c)
   are_alike e = by_test (is_sizable (cell_at cells c)) e
     where
       by_test : (b : Bool) → b ≡ true → All (λ x. passes x ≡ true) (if b then filter passes (ranked cells) else c ∷ [])
       by_test true h = passes-filter passes (ranked cells)
       by_test false h = absurd cc
+
+  all_alike : is_sizable (cell_at cells c) ≡ true → (x : ℕ) → x < length cells → passes x ≡ true → IsAmong (alternatives cells c) x
+  all_alike e x inside alike = by_test (is_sizable (cell_at cells c)) e
+    where
+      by_test : (b : Bool) → b ≡ true → IsAmong (if b then filter passes (ranked cells) else c ∷ []) x
+      by_test true h = has-filter passes x (ranked cells) alike (has_itself cells l.differ x inside)
+      by_test false h = absurd cc
+
+  rise : AllPairs (IsRankedBelow cells) (alternatives cells c)
+  rise = by_test (is_sizable (cell_at cells c))
+    where
+      by_test : (b : Bool) → AllPairs (IsRankedBelow cells) (if b then filter passes (ranked cells) else c ∷ [])
+      by_test true = AllPairs-filter (IsRankedBelow cells) passes (ranked cells) (ranked_rise cells l.differ)
+      by_test false = λ i j d ij h. absurd (omega arith)
+
+  alone : is_sizable (cell_at cells c) ≡ false → alternatives cells c ≡ c ∷ []
+  alone e = by_test (is_sizable (cell_at cells c)) e
+    where
+      by_test : (b : Bool) → b ≡ false → (if b then filter passes (ranked cells) else c ∷ []) ≡ c ∷ []
+      by_test true h = absurd cc
+      by_test false h = refl
+
+  pub kept : AreAlternativesOf cells c (alternatives cells c)
+  kept = record {
+    few = few;
+    inside = inside;
+    differ = differ;
+    itself = itself;
+    are_alike = are_alike;
+    all_alike = all_alike;
+    rise = rise;
+    alone = alone;
+  }

@@ -3,7 +3,7 @@
 use Rattle.std.specs.Prelude.{ℕ, ◌≡◌, ◌≢◌, ◌+◌, ◌<◌, ◌≤◌, ◌==◌, Bool, true, false, List, map, length, slice_index, sum_by, All, AllPairs, Option, None, Some, ℤ, nat_abs, nat_lt}
 use Rattle.std.specs.List.{list_any}
 use Rattle.gs_text.specs.Pieces.{IsUnbroken}
-use Rattle.gs_design.specs.Amounts.{IsAmount, IsAmountIfGiven}
+use Rattle.gs_design.specs.Amounts.{IsAmount}
 use Rattle.gs_design.specs.Cell.{is_gate}
 use Rattle.gs_design.specs.Cells.{cell_at}
 use Rattle.gs_design.specs.Ends.{data_pins, end_at, end_pins, is_at_port, is_gate_inst, pin_net, pins_on, port_count}
@@ -109,8 +109,11 @@ pub record IsDesign (cells : List Cell) (slew_default : Option ℤ) (insts : Lis
   pub drives : (g : ℕ) → g < length insts → (net_at nets (inst_at insts g).output).driver ≡ OfInst g
   pub nets_kept : (n : ℕ) → n < length nets → IsNet cells insts n (net_at nets n)
   pub ends_kept : AreEnds cells insts nets ends
+  -- an endpoint at a data pin is bounded by the period
+  pub pin_bounds : (e g p : ℕ) → e < length ends → (end_at ends e).place ≡ AtPin g p → (end_at ends e).bound ≡ period
   -- a net that a gate drives stands in the order after that gate's input nets
   pub order_kept : IsOrder (length nets) order ranks
   pub inputs_before : (n g : ℕ) → n < length nets → (net_at nets n).driver ≡ OfInst g → is_gate_inst cells (inst_at insts g) ≡ true → All (λ m. slice_index ranks m < slice_index ranks n) (inst_at insts g).inputs
-  pub period_in : IsAmount period
-  pub area_bound_in : IsAmountIfGiven area_bound
+  -- the magnitudes of the period, and of the bound on the area where there is one
+  pub period_in : nat_abs period < 1099511627776
+  pub area_bound_in : (z : ℤ) → area_bound ≡ Some z → nat_abs z < 1099511627776

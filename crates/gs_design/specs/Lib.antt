@@ -3,6 +3,7 @@ pub mod Cell
 pub mod Cells
 pub mod Alternatives
 pub mod Library
+pub mod Class
 pub mod Insts
 pub mod Nets
 pub mod Ends

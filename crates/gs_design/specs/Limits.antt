@@ -1,6 +1,6 @@
 -- The limits of a design: what is held, the bound, and which are met.
 
-use Rattle.std.specs.Prelude.{ℕ, ◌<◌, ◌++◌, ◌∷◌, [], Bool, true, false, not, List, map, filter, filter_map, length, sum_by, Option, None, Some, unwrap_or, ℤ, pos, ◌-ℤ◌, nat_abs, int_lt, if◌then◌else◌}
+use Rattle.std.specs.Prelude.{ℕ, ◌≡◌, ◌<◌, ◌++◌, ◌∷◌, [], Bool, true, false, not, List, map, filter, filter_map, length, sum_by, Option, None, Some, unwrap_or, ℤ, pos, ◌-ℤ◌, nat_abs, int_lt, if◌then◌else◌}
 use Rattle.std.specs.Int.{int_max}
 use Rattle.std.specs.List.{range_with_len}
 use Rattle.gs_design.specs.Ends.{end_at, ends_at}
@@ -32,7 +32,15 @@ limits d =
 abbrev pub limits_at : Design → ℕ → List Limit
 limits_at d n = map (λ e. Setup e) (ends_at d.ends n) ++ Slew n ∷ (if is_driven_by_inst d n then Load n ∷ [] else [])
 
--- the net that a limit is about
+-- A limit of the design: of one of its endpoints, of one of its nets, or of one of its nets that an instance drives. The area stands for
+-- no limit of any design yet.
+abbrev pub IsLimitOf : Design → Limit → Type 0
+IsLimitOf d (Setup e) = e < length d.ends
+IsLimitOf d (Slew n) = n < length d.nets
+IsLimitOf d (Load n) = (n < length d.nets) × (is_driven_by_inst d n ≡ true)
+IsLimitOf d Area = ⊥
+
+-- The net that a limit is about. Here and below the answer at the area stands for nothing: no design has that limit.
 abbrev pub limit_net : Design → Limit → ℕ
 limit_net d (Setup e) = (end_at d.ends e).net
 limit_net d (Slew n) = n

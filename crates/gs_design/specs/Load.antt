@@ -20,7 +20,7 @@ sink_pin d s k = pin_at (cell_of d s k.inst).pins k.pin
 abbrev pub output_pin : Cell → CellPin
 output_pin c = pin_at c.pins (output_place c.pins)
 
--- the capacitance of the wire, the load at the output port, and the capacitance of each sink's pin
+-- the capacitance of the wire, the load at the port, input or output, that the net is, and the capacitance of each sink's pin
 abbrev pub load_of : Design → List ℕ → ℕ → ℤ
 load_of d s n = fold (λ load k. load +ℤ (sink_pin d s k).cap) ((net_at d.nets n).wire +ℤ (net_at d.nets n).port_load) (net_at d.nets n).sinks
 

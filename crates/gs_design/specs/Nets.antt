@@ -7,7 +7,7 @@ use Rattle.gs_design.specs.declared.sink.Driver.{Driver}
 use Rattle.gs_design.specs.declared.sink.Driver.TheVariants.{Port}
 use Rattle.gs_design.specs.declared.sink.Sink.{Sink}
 
--- A net: its name, the capacitance of its wire, the load at the output port that it is, what drives it, and the input pins on it.
+-- A net: its name, the capacitance of its wire, the load at the port, input or output, that it is, what drives it, and the input pins on it.
 pub record Net : Type 0 where
   pub name : List ℕ
   pub wire : ℤ

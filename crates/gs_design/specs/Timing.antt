@@ -54,7 +54,8 @@ local_of d s t n = record {
   fall = (edges_at d s t n).fall;
 }
 
--- A timing of a design at its sizes: each net's record is what its equation says. There is exactly one.
+-- A timing of a design at its sizes: each net's record is what its equation says. It speaks of sizes that fit the design, which those
+-- who use it ask for beside it; of such sizes there is exactly one timing (`gs_timing` shows it).
 pub record IsTiming (d : Design) (s : List ℕ) (t : List NetTime) : Type 0 where
   pub as_many : FitTiming d t
   pub each : (n : ℕ) → n < length d.nets → time_at t n ≡ local_of d s t n

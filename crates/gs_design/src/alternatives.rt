@@ -1,23 +1,15 @@
-//! What the alternatives of a cell keep.
+//! What the alternatives of a cell are.
 #![tactic(auto)]
 
-use crate::ids::CellId;
-use crate::library::Library;
+ghost use Rattle.std.specs.Prelude.{◌<◌, ℕ, List, length, Option, ℤ};
+ghost use Rattle.gs_design.specs.Alternatives.{alternatives};
+ghost use Rattle.gs_design.specs.Class.{AreAlternativesOf};
+ghost use Rattle.gs_design.specs.Library.{IsLibrary};
+ghost use Rattle.gs_design.specs.declared.cell.Cell.{Cell};
 
-impl Library {
-    ghost use Rattle.std.specs.Prelude.{◌≡◌, ◌≢◌, ◌<◌, ◌≤◌, ◌==◌, true, length, All, AllPairs};
-    ghost use Rattle.std.specs.List.{list_any};
-    ghost use Rattle.gs_design.specs.Alternatives.{alike, alternatives, is_sizable};
-    ghost use Rattle.gs_design.specs.Cells.{cell_at};
-
-    /// A law on the alternatives of a cell: there are at most 1,024; they are cells of the library, and differ; the cell itself is one
-    /// of them; and those of a sizable cell are alike to it. The call does nothing.
-    pub fn alternatives_kept(&self, cell: CellId)
-        requires { cell < length self.now.cells }
-        ensures few { length (alternatives self.now.cells cell) ≤ 1024 }
-        ensures inside { All (λ c. c < length self.now.cells) (alternatives self.now.cells cell) }
-        ensures differ { AllPairs (λ x y. x ≢ y) (alternatives self.now.cells cell) }
-        ensures itself { list_any (λ c. c == cell) (alternatives self.now.cells cell) ≡ true }
-        ensures are_alike { is_sizable (cell_at self.now.cells cell) ≡ true → All (λ c. alike (cell_at self.now.cells cell) (cell_at self.now.cells c) ≡ true) (alternatives self.now.cells cell) }
-    {}
-}
+/// A law on the alternatives of a cell of a library, also of one whose cells are taken apart: at most 1,024 cells that differ, the cell
+/// itself among them; of a sizable cell exactly the cells alike, by leakage and then by name; of any other cell itself alone. The call
+/// does nothing.
+pub fn alternatives_are_kept()
+    ensures { (slew_default : Option ℤ) (cells : List Cell) (c : ℕ) → IsLibrary slew_default cells → c < length cells → AreAlternativesOf cells c (alternatives cells c) }
+{}

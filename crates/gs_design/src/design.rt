@@ -17,10 +17,11 @@ use gs_text::Name;
 
 /// A linked design: instances and nets, the cells that each instance may take, the endpoints, and an order for timing.
 ///
-/// Every design keeps what `specs/Design.antt` lists as `IsDesign`, field by field: each number in it is a place in its list; drivers
-/// and sinks are exactly the pins of its instances; the alternatives of an instance are gates with an arc from every input, or one
-/// flip-flop; endpoints are at output ports, and then at the data pins of the flip-flops; a net stands in `order` after the input nets
-/// of the gate that drives it; and the limits of its numbers.
+/// Every design keeps what `specs/Design.antt` lists as `IsDesign`, field by field: each number in it is a place in its list; the drivers
+/// that are instances are exactly the output pins of its instances, and the sinks exactly their input pins; the alternatives of an
+/// instance are gates with an arc from every input, or one flip-flop; endpoints are at output ports, and then at the data pins of the
+/// flip-flops, these with the period as their bound; a net stands in `order` after the input nets of the gate that drives it; and the
+/// limits of its numbers.
 ///
 /// Beside these parts it keeps copies that timing reads: the data of all cells' pins, and the endpoints by net.
 #[derive(Drop)]

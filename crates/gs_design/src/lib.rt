@@ -10,7 +10,7 @@
 //! - **The rules** are definitions of a design, its sizes and a timing: the load of a net and its bounds (`specs/Load.antt`), the edges that
 //!   a cell makes (`specs/Edges.antt`), the equation of a net and the timing of a design (`specs/Timing.antt`), limits, excess and
 //!   violations (`specs/Limits.antt`), sizes, leakage and area (`specs/Sizes.antt`), and which cells may take each other's place
-//!   (`specs/Alternatives.antt`, with the law [`Library::alternatives_kept`]).
+//!   (`specs/Alternatives.antt`; what they are, by the law [`alternatives_are_kept`], says `specs/Class.antt`).
 //! - **Layout.** Contracts see `insts` and `nets` of a design as lists of records. In memory what timing reads lies in rows of numbers and in
 //!   `Grouped` lists, apart from the names; `Design::new` lays out the data of all pins and the endpoints by net, which nothing above
 //!   has to know. Reading calls take a number and give a field: no search, and no memory taken.
@@ -48,6 +48,7 @@ mod time;
 mod units;
 mod view;
 
+pub use alternatives::alternatives_are_kept;
 pub use arc::{Arcs, Sense, TimingArc};
 pub use cell::{Cell, Cells};
 pub use design::Design;

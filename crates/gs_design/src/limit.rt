@@ -13,7 +13,7 @@ pub enum Limit {
     Slew(NetId),
     /// The greatest load of a net that an instance drives.
     Load(NetId),
-    /// The greatest area of the design. It stands for no limit yet.
+    /// The greatest area of the design. No design has this limit yet: it is in no list of limits, and no definition says what it holds.
     Area,
 }
 

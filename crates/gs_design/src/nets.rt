@@ -14,7 +14,7 @@ use gs_text::{Name, Names};
 use std::marker::Model;
 
 /// The nets of a design, by number. Contracts see a list of nets, each with its `name`, the capacitance `wire` of its wire, the load
-/// `port_load` at the output port that it is, its `driver` and its `sinks`.
+/// `port_load` at the port, input or output, that it is, its `driver` and its `sinks`.
 ///
 /// In memory the numbers that timing reads lie apart from the names, and the sinks of all nets one after another.
 #[derive(Drop)]
@@ -68,7 +68,7 @@ impl Nets {
         self.rows.at(net.index()).wire
     }
 
-    /// The load at the output port that a net is, in millionths of 1 fF; 0 where there is none.
+    /// The load at the port, input or output, that a net is, in millionths of 1 fF; 0 where there is none.
     #[inline]
     pub fn port_load(&self, net: NetId) -> Micro
         requires { net < length self.now }

@@ -23,7 +23,7 @@ pub struct InstRow {
 pub struct NetRow {
     /// The capacitance of the wire, in millionths of 1 fF.
     pub wire: Micro,
-    /// The load at the output port that it is, in millionths of 1 fF; 0 where there is none.
+    /// The load at the port, input or output, that it is, in millionths of 1 fF; 0 where there is none.
     pub port_load: Micro,
     /// What drives it.
     pub driver: Driver,

@@ -1,0 +1,5 @@
+pub mod ClassLaws
+pub mod FirstLaws
+pub mod GroupLaws
+pub mod LayoutLaws
+pub mod Ranks
