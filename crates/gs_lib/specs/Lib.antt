@@ -1,8 +1,6 @@
-pub mod Amount
-pub mod Attribute
-pub mod Cells
+pub mod Classes
+pub mod Draft
+pub mod Faults
 pub mod Index
-pub mod PowerUnit
-pub mod Reading
-pub mod Refusal
-pub mod Table
+pub mod Library
+pub mod Profile

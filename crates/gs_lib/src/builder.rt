@@ -1,112 +1,191 @@
-//! The rows of a table while it is read, with their index.
-#![tactic(auto)]
+//! The cells of a library while it is read, with their names.
 
-ghost use Rattle.std.specs.Prelude.{◌≡◌, [], ◌∷◌, ◌++◌, codes, false, IfErr, IfOk, MatchResult, Ok};
-ghost use Rattle.gs_lib.specs.Amount.{IsAmount};
-ghost use Rattle.gs_lib.specs.Attribute.{group_in, label_of};
-ghost use Rattle.gs_lib.specs.Cells.{leakage_value, row_with};
-ghost use Rattle.gs_lib.specs.Index.{IsIndexed};
-ghost use Rattle.gs_lib.specs.Reading.{Fails, leakage_by, with_cell, with_found};
-ghost use Rattle.gs_lib.specs.Table.{has_row};
+ghost use Rattle.std.specs.Prelude.{◌≡◌, ◌++◌, ◌∷◌, [], false, None, Some, IfOk, IfErr, codes, map};
+ghost use Rattle.std.specs.BTreeMap.{get};
+ghost use Rattle.std.specs.Cmp.Lexicographic.{slice_cmp};
+ghost use Rattle.std.specs.List.{list_any};
+ghost use Rattle.std.specs.Option.{option_map};
+ghost use Rattle.std.specs.Ordering.{nat_cmp};
+ghost use Rattle.std.specs.Str.{bytes_eq};
+ghost use Rattle.gs_design.specs.Cells.{cell_name};
+ghost use Rattle.gs_libcell.specs.Attribute.{group_in};
+ghost use Rattle.gs_libcell.specs.Pin.{pins_in};
+ghost use Rattle.gs_text.specs.Pieces.{IsUnbroken};
+ghost use Rattle.gs_lib.specs.Draft.{cell_lists, cell_of, draft_lists};
+ghost use Rattle.gs_lib.specs.Index.{IsKept, IsOfCell, cells_by, fault_by, names_by};
+ghost use Rattle.gs_lib.specs.Library.{Checks, draft_by, draft_fault, draft_with, drafts_fault, drafts_in, part_fault};
+ghost use Rattle.gs_lib.specs.declared.draft.Draft.{Draft};
+ghost use Rattle.gs_lib.specs.declared.error.LibErr.{LibErr};
 
-use crate::amount::amount_of;
-use crate::attribute::{group_in, label_of, last_simple};
-use crate::error::{LibErr, What};
-use crate::row::LeakRow;
+use crate::cell::cell_of;
+use crate::draft::{Draft, draft_of};
+use crate::error::LibErr;
+use crate::fault::{bad_table, draft_is_bad, draft_missing};
+use crate::profile::{inputs_in_order, kind_of};
+use gs_design::Cell;
+use gs_libcell::{Context, NamedPin, group_in, pins_in};
 use gs_libtree::{Item, Node};
-use gs_quantity::Micro;
 use gs_text::Name;
 use std::alloc::Global;
 use std::collections::BTreeMap;
 
-/// The rows so far, and the leakage of each by its name.
+/// The cells so far, and their names.
 #[derive(Drop)]
 pub struct Builder {
-    pub rows: Vec<LeakRow>,
-    pub index: BTreeMap<Name, Micro>,
+    pub cells: Vec<Cell>,
+    pub names: BTreeMap<Name, u8>,
 }
 
-/// The leakage of a cell of this name.
-fn leakage_in(name: &Name, cell: &Node, alloc: Global) -> Result<Micro, LibErr>
-    ensures value { MatchResult result (λ m. leakage_by name.now (leakage_value cell.now) ≡ Ok m) (λ e. Fails e (leakage_by name.now (leakage_value cell.now))) }
-    ensures kept { IfOk result (λ m. IsAmount m) }
+/// Why a cell isn't read whose name is new.
+fn part_fault(alloc: Global, draft: &Draft) -> Result<(), LibErr>
+    ensures { Checks (part_fault (draft_lists draft.now)) result }
 {
-    let Some(value) = last_simple(b"cell_leakage_power", cell.items.as_slice()) else {
-        let cell = Name::copy_of(alloc, name.as_bytes())?;
-        return Err(LibErr::Missing {
-            cell,
-            what: What::Leakage,
-        });
-    };
-    match amount_of(value.as_bytes()) {
-        Some(amount) => Ok(amount),
-        None => {
-            let cell = Name::copy_of(alloc, name.as_bytes())?;
-            Err(LibErr::BadNumber { cell })
+    if let Some(what) = draft_missing(draft) {
+        let cell = Name::copy_of(alloc, draft.name.as_bytes())?;
+        return Err(LibErr::Missing { cell, what });
+    }
+    if draft_is_bad(draft) {
+        let cell = Name::copy_of(alloc, draft.name.as_bytes())?;
+        return Err(LibErr::BadNumber { cell });
+    }
+    if let Some(i) = bad_table(draft.timings.as_slice()) {
+        let cell = Name::copy_of(alloc, draft.name.as_bytes())?;
+        return Err(LibErr::BadTable { cell, i });
+    }
+    Ok(())
+}
+
+/// What a cell of these pins says; none where it is passed over.
+fn draft_with(
+    alloc: Global,
+    lib: &Context,
+    cell: &Node,
+    pins: Vec<NamedPin>,
+) -> Result<Option<Draft>, LibErr>
+    requires { pins.items ≡ pins_in lib.now.units cell.now.items }
+    ensures ok { IfOk result (λ o. option_map draft_lists o ≡ draft_with lib.now cell.now pins.items) }
+    ensures of_cell { IfOk result (λ o. (d : Draft) → o ≡ Some d → IsOfCell lib.now cell.now d) }
+    ensures err { IfErr result (λ e. e ≡ LibErr.Mem) }
+{
+    let inputs = inputs_in_order(alloc, pins.as_slice())?;
+    let kind = kind_of(alloc, cell, pins.as_slice(), inputs.as_slice())?;
+    match kind {
+        None => Ok(None),
+        Some(kind) => {
+            let draft = draft_of(alloc, lib, cell, kind, pins, inputs)?;
+            Ok(Some(draft))
         }
     }
+}
+
+/// What a cell says; none where it is passed over.
+fn draft_in(alloc: Global, lib: &Context, cell: &Node) -> Result<Option<Draft>, LibErr>
+    ensures ok { IfOk result (λ o. option_map draft_lists o ≡ draft_by lib.now (Some cell.now)) }
+    ensures of_cell { IfOk result (λ o. (d : Draft) → o ≡ Some d → IsOfCell lib.now cell.now d) }
+    ensures err { IfErr result (λ e. e ≡ LibErr.Mem) }
+{
+    let pins = pins_in(alloc, lib.units(), cell.items.as_slice())?;
+    let draft = draft_with(alloc, lib, cell, pins)?;
+    Ok(draft)
+}
+
+/// The cell of a draft in which nothing is missing or bad.
+fn cell_from(alloc: Global, lib: &Context, cell: &Node, draft: Draft) -> Result<Cell, LibErr>
+    requires of_cell { IsOfCell lib.now cell.now draft }
+    requires whole { part_fault (draft_lists draft) ≡ None }
+    ensures ok { IfOk result (λ c. cell_lists c ≡ cell_of (draft_lists draft)) }
+    ensures err { IfErr result (λ e. e ≡ LibErr.Mem) }
+{
+    cell_of(alloc, draft)
 }
 
 impl Builder {
-    /// No rows. It takes no memory.
+    /// No cells. It takes no memory.
     pub fn new(alloc: Global) -> Builder
-        ensures rows { result.rows.items ≡ [] }
-        ensures indexed { IsIndexed result }
+        ensures cells { result.cells.items ≡ [] }
+        ensures kept { IsKept result }
     {
         Builder {
-            rows: Vec::new(alloc),
-            index: BTreeMap::new(alloc),
+            cells: Vec::new(alloc),
+            names: BTreeMap::new(alloc),
         }
     }
 
-    /// Whether a row has the name.
+    /// Whether a cell has the name.
     fn has(&self, name: &Name) -> bool
-        requires { IsIndexed self.now }
-        ensures { result ≡ has_row self.now.rows.items name.now }
+        requires { IsKept self.now }
+        ensures { result ≡ list_any (bytes_eq name.now) (map cell_name self.now.cells.items) }
     {
-        self.index.contains_key(name)
+        self.names.contains_key(name)
     }
 
-    /// Puts a row of a new name last.
-    fn put(&mut self, alloc: Global, name: Name, leakage: Micro) -> Result<(), LibErr>
-        requires indexed { IsIndexed self.old }
-        requires new { has_row self.old.rows.items name ≡ false }
-        requires amount { IsAmount leakage }
-        ensures indexed { IfOk result (λ _. IsIndexed self.new) }
-        ensures ok { IfOk result (λ _. self.new.rows.items ≡ self.old.rows.items ++ record { name = name; leakage = leakage } ∷ []) }
+    /// Puts a cell of a new name last.
+    fn put(&mut self, name: Name, cell: Cell) -> Result<(), LibErr>
+        requires kept { IsKept self.old }
+        requires name { name ≡ cell.name }
+        requires new { list_any (bytes_eq name) (map cell_name self.old.cells.items) ≡ false }
+        requires solid { IsUnbroken cell.name }
+        ensures cells { IfOk result (λ _. self.new.cells.items ≡ self.old.cells.items ++ cell ∷ []) }
+        ensures kept { IfOk result (λ _. IsKept self.new) }
         ensures err { IfErr result (λ e. e ≡ LibErr.Mem) }
     {
-        let key = Name::copy_of(alloc, name.as_bytes())?;
-        self.index.insert(key, leakage)?;
-        self.rows.push(LeakRow { name, leakage })?;
+        self.names.insert(name, 0)?;
+        self.cells.push(cell)?;
         Ok(())
     }
 
-    /// Takes a cell, whose name may not be that of an earlier one.
-    fn take(&mut self, alloc: Global, cell: &Node) -> Result<(), LibErr>
-        requires { IsIndexed self.old }
-        ensures indexed { IfOk result (λ _. IsIndexed self.new) }
-        ensures ok { IfOk result (λ _. with_cell self.old.rows.items cell.now ≡ Ok self.new.rows.items) }
-        ensures err { IfErr result (λ e. Fails e (with_cell self.old.rows.items cell.now)) }
+    /// Takes a cell of the profile.
+    fn take_draft(
+        &mut self,
+        alloc: Global,
+        lib: &Context,
+        cell: &Node,
+        draft: Draft,
+    ) -> Result<(), LibErr>
+        requires kept { IsKept self.old }
+        requires of_cell { IsOfCell lib.now cell.now draft }
+        ensures fault { Checks (draft_fault (map cell_name self.old.cells.items) (draft_lists draft)) result }
+        ensures cells { IfOk result (λ _. map cell_lists self.new.cells.items ≡ map cell_lists self.old.cells.items ++ cell_of (draft_lists draft) ∷ []) }
+        ensures names { IfOk result (λ _. map cell_name self.new.cells.items ≡ map cell_name self.old.cells.items ++ draft.name ∷ []) }
+        ensures kept { IfOk result (λ _. IsKept self.new) }
     {
-        let name = Name::copy_of(alloc, label_of(cell))?;
+        let name = Name::copy_of(alloc, draft.name.as_bytes())?;
         if self.has(&name) {
             return Err(LibErr::TwoCells { name });
         }
-        let leakage = leakage_in(&name, cell, alloc)?;
-        self.put(alloc, name, leakage)?;
+        if let Err(error) = part_fault(alloc, &draft) {
+            return Err(error);
+        }
+        let made = cell_from(alloc, lib, cell, draft)?;
+        self.put(name, made)?;
         Ok(())
     }
 
+    /// Takes a cell, which may be passed over.
+    fn take_cell(&mut self, alloc: Global, lib: &Context, cell: &Node) -> Result<(), LibErr>
+        requires { IsKept self.old }
+        ensures fault { Checks (fault_by (map cell_name self.old.cells.items) (draft_by lib.now (Some cell.now))) result }
+        ensures cells { IfOk result (λ _. map cell_lists self.new.cells.items ≡ map cell_lists self.old.cells.items ++ cells_by (draft_by lib.now (Some cell.now))) }
+        ensures names { IfOk result (λ _. map cell_name self.new.cells.items ≡ map cell_name self.old.cells.items ++ names_by (draft_by lib.now (Some cell.now))) }
+        ensures kept { IfOk result (λ _. IsKept self.new) }
+    {
+        let draft = draft_in(alloc, lib, cell)?;
+        match draft {
+            None => Ok(()),
+            Some(draft) => self.take_draft(alloc, lib, cell, draft),
+        }
+    }
+
     /// Takes an item of the library, which may be a cell.
-    pub fn take_item(&mut self, alloc: Global, item: &Item) -> Result<(), LibErr>
-        requires { IsIndexed self.old }
-        ensures indexed { IfOk result (λ _. IsIndexed self.new) }
-        ensures ok { IfOk result (λ _. with_found self.old.rows.items (group_in (codes "cell") item.now) ≡ Ok self.new.rows.items) }
-        ensures err { IfErr result (λ e. Fails e (with_found self.old.rows.items (group_in (codes "cell") item.now))) }
+    pub fn take_item(&mut self, alloc: Global, lib: &Context, item: &Item) -> Result<(), LibErr>
+        requires { IsKept self.old }
+        ensures fault { Checks (fault_by (map cell_name self.old.cells.items) (draft_by lib.now (group_in (codes "cell") item.now))) result }
+        ensures cells { IfOk result (λ _. map cell_lists self.new.cells.items ≡ map cell_lists self.old.cells.items ++ cells_by (draft_by lib.now (group_in (codes "cell") item.now))) }
+        ensures names { IfOk result (λ _. map cell_name self.new.cells.items ≡ map cell_name self.old.cells.items ++ names_by (draft_by lib.now (group_in (codes "cell") item.now))) }
+        ensures kept { IfOk result (λ _. IsKept self.new) }
     {
         match group_in(b"cell", item) {
-            Some(cell) => self.take(alloc, cell),
+            Some(cell) => self.take_cell(alloc, lib, cell),
             None => Ok(()),
         }
     }

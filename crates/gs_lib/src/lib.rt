@@ -1,36 +1,40 @@
-//! The leakage of a library's cells, after the Liberty reference manual, in this project's own profile.
+//! Libraries of cells, after the Liberty reference manual, in this project's own profile.
 //!
-//! [`read_leaks`] reads the tree of a Liberty text and answers its [`Leaks`]: the unit of leakage, and for each cell its
-//! name and its leakage. Its contract says both ways what is read: it answers `Ok` exactly on the trees of the relation
-//! `LeaksOf`, with the one table, and each refusal exactly where its cause stands, the first in the order of the file. Want
-//! of memory is the one answer that may come at any point.
+//! [`read_library`] reads the tree of a Liberty text and answers its `Library`: units, and cells with their pins, functions, arcs and
+//! lookup tables. Its contract says both ways what is read: it answers `Ok` exactly on the trees of a library (`IsLibraryOf`), with the
+//! one library, and each refusal exactly where it is the first that stands; each tree has a library or such a refusal, and
+//! [`each_tree_is_decided`] says that it never has both, nor two of either. Want of memory is the one answer that may come at any point.
+//! Definitions see each table of a library as its three lists (`library_lists`); two libraries with the same lists are the same.
 //!
-//! - `specs/Table.antt`: the table, and what every table keeps.
-//! - `specs/Cells.antt`: the table that a tree stands for.
-//! - `specs/Refusal.antt`: the cause of each refusal.
-//! - `specs/Attribute.antt`, `specs/Amount.antt`, `specs/PowerUnit.antt`: attributes and groups by name, a number that isn't
-//!   negative, the unit of leakage. They speak of no cell, and serve whatever else of a library is read.
-//! - `specs/Reading.antt`: the same answer as a function of the tree, cell by cell; `specs/Index.antt` is the map by which
-//!   a cell is found, of which the public contract says nothing.
+//! - `specs/Profile.antt`: which cells are read, and as what. Each of the seven reasons why a cell is passed over is a definition.
+//! - `specs/Draft.antt`: what a cell says, which of it is missing or bad, and the cell that it makes.
+//! - `specs/Library.antt`: units, the refusals in their order (`first_fault`), and the library of a tree.
+//! - `specs/Index.antt`, `specs/Classes.antt`: the maps by which names, and cells that may take each other's place, are found. No public
+//!   clause names them.
 //!
-//! Reading takes one pass over the root's items for the unit and one for the cells; a cell costs a pass over its own items and a
-//! look into an ordered map.
+//! Each attribute of the library is a pass over the root's items, and the cells are one more; a cell costs some passes over its own
+//! items, a look into an ordered map of names, and one into a map of classes. Each table is parsed once and copied for each input that
+//! its group names.
 //!
-//! A further attribute of a cell that counts is a definition beside `leakage_value` in `specs/Cells.antt`, and a step of `Builder::take`.
+//! A further refusal of a cell is a line of `part_fault`; a further attribute is a field of `Draft`, read in `src/draft.rt` and judged in
+//! `src/fault.rt`; attributes of pins and tables stand in the crate below.
 #![tactic(auto)]
 
-mod amount;
-mod attribute;
 mod builder;
+mod cell;
+mod classes;
+mod draft;
 mod error;
+#[cfg(test)]
+mod example_tests;
+mod fault;
+mod header;
+mod law;
+mod profile;
 mod read;
-mod row;
-mod table;
 #[cfg(test)]
 mod tests;
-mod unit;
 
 pub use error::{LibErr, What};
-pub use read::read_leaks;
-pub use row::{LeakRow, LeakRows};
-pub use table::Leaks;
+pub use law::each_tree_is_decided;
+pub use read::read_library;

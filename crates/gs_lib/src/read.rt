@@ -1,56 +1,36 @@
-//! Reading the leakage of a library.
-#![tactic(auto)]
+//! Reading a library.
 
-ghost use Rattle.std.specs.Prelude.{◌≡◌, ◌≢◌, ◌⊎◌, [], IfErr, IfOk, MatchResult, Ok};
-ghost use Rattle.gs_libtree.specs.declared.tree.Node.{Node};
-ghost use Rattle.gs_lib.specs.Cells.{LeaksOf, cells_of};
-ghost use Rattle.gs_lib.specs.Index.{IsIndexed};
-ghost use Rattle.gs_lib.specs.Reading.{Fails, leaks_of, table_by, unit_of, with_cells};
-ghost use Rattle.gs_lib.specs.Refusal.{HasCause};
-ghost use Rattle.gs_lib.specs.Table.{LeakTable};
+ghost use Rattle.std.specs.Prelude.{◌≡◌, [], IfOk, IfErr, MatchResult, map};
+ghost use Rattle.gs_design.specs.Library.{IsLibrary};
+ghost use Rattle.gs_grammar.specs.Answers.{IsDecided, IsExact, IsOnly};
+ghost use Rattle.gs_libcell.specs.Unit.{scale};
+ghost use Rattle.gs_lib.specs.Draft.{cell_lists, cell_of};
+ghost use Rattle.gs_lib.specs.Index.{IsKept};
+ghost use Rattle.gs_lib.specs.Library.{Checks, HasCause, IsLibraryOf, count_fault, drafts_fault, drafts_in, library_lists};
 ghost use Rattle.gs_lib.specs.declared.error.LibErr.{LibErr};
 
-use crate::attribute::last_simple;
 use crate::builder::Builder;
-use crate::error::{LibErr, What};
-use crate::row::LeakRows;
-use crate::table::Leaks;
-use crate::unit::is_unit;
-use gs_libtree::{Group, Node};
-use gs_text::Name;
+use crate::classes::has_large_class;
+use crate::error::LibErr;
+use crate::header::{Header, read_header};
+use gs_design::{Cell, Library};
+use gs_libcell::Context;
+use gs_libtree::{Group, Item, Node};
+use gs_list::Rows;
 use std::alloc::Global;
 
 /// How many cells a library may have.
 const MOST: usize = 65_535;
 
-/// The unit of leakage of a root that is a library, empty where it is missing.
-fn read_unit(alloc: Global, root: &Node) -> Result<Name, LibErr>
-    ensures { MatchResult result (λ u. unit_of root.now ≡ Ok u) (λ e. Fails e (unit_of root.now)) }
-{
-    if !root.name.is(b"library") {
-        return Err(LibErr::Missing {
-            cell: Name::empty(alloc),
-            what: What::Library,
-        });
-    }
-    let Some(unit) = last_simple(b"leakage_power_unit", root.items.as_slice()) else {
-        return Ok(Name::empty(alloc));
-    };
-    if !is_unit(unit.as_bytes()) {
-        return Err(LibErr::BadUnit);
-    }
-    let copy = Name::copy_of(alloc, unit.as_bytes())?;
-    Ok(copy)
-}
-
-/// The rows of a root's cells.
-fn read_cells(alloc: Global, root: &Node) -> Result<Builder, LibErr>
-    ensures value { MatchResult result (λ b. with_cells [] (cells_of root.now) ≡ Ok b.rows.items) (λ e. Fails e (with_cells [] (cells_of root.now))) }
-    ensures indexed { IfOk result (λ b. IsIndexed b) }
+/// The cells of the items of a library.
+fn read_cells(alloc: Global, lib: &Context, items: &[Item]) -> Result<Builder, LibErr>
+    ensures fault { Checks (drafts_fault [] (drafts_in lib.now items.now)) result }
+    ensures cells { IfOk result (λ b. map cell_lists b.cells.items ≡ map cell_of (drafts_in lib.now items.now)) }
+    ensures kept { IfOk result (λ b. IsKept b) }
 {
     let mut builder = Builder::new(alloc);
-    for item in root.items.as_slice() {
-        match builder.take_item(alloc, item) {
+    for item in items {
+        match builder.take_item(alloc, lib, item) {
             Ok(()) => {}
             Err(error) => return Err(error),
         }
@@ -58,48 +38,78 @@ fn read_cells(alloc: Global, root: &Node) -> Result<Builder, LibErr>
     Ok(builder)
 }
 
-/// The table of these rows.
-fn finish(unit: Name, builder: Builder) -> Result<Leaks, LibErr>
-    requires { IsIndexed builder }
-    ensures { result ≡ table_by unit builder.rows.items }
+/// Whether these are too many cells.
+fn check_count(alloc: Global, cells: &[Cell]) -> Result<(), LibErr>
+    ensures { Checks (count_fault (map cell_lists cells.now)) result }
 {
-    let Builder { rows, index } = builder;
-    if rows.len() > MOST {
+    if cells.len() > MOST {
         return Err(LibErr::TooMany);
     }
-    Ok(Leaks::of(unit, LeakRows::from_vec(rows), index))
+    let large = has_large_class(alloc, cells)?;
+    if large {
+        return Err(LibErr::TooMany);
+    }
+    Ok(())
 }
 
-/// Reads the table of a root.
-fn read_root(alloc: Global, root: &Node) -> Result<Leaks, LibErr>
-    ensures { MatchResult result (λ t. leaks_of root.now ≡ Ok t) (λ e. Fails e (leaks_of root.now)) }
+fn make_library(header: Header, cells: Vec<Cell>) -> Library
+    requires { IsLibrary header.slew_default cells.items }
+    ensures { library_lists result ≡ record { units = scale header.units; leak_unit = header.leak_unit; slew_default = header.slew_default; cells = map cell_lists cells.items } }
 {
-    let unit = read_unit(alloc, root)?;
-    let builder = read_cells(alloc, root)?;
-    finish(unit, builder)
+    let Header {
+        units,
+        leak_unit,
+        slew_default,
+    } = header;
+    Library {
+        units,
+        leak_unit,
+        slew_default,
+        cells: Rows::from_vec(cells),
+    }
 }
 
-/// Reads the leakage of a library's cells.
+/// Reads the library of a root.
+fn read_root(alloc: Global, root: &Node) -> Result<Library, LibErr>
+    ensures { MatchResult result (λ l. IsLibraryOf root.now l) (λ e. HasCause root.now e) }
+{
+    let header = match read_header(alloc, root) {
+        Ok(header) => header,
+        Err(error) => return Err(error),
+    };
+    let lib = Context::new(alloc, header.units, root.items.as_slice())?;
+    let builder = match read_cells(alloc, &lib, root.items.as_slice()) {
+        Ok(builder) => builder,
+        Err(error) => return Err(error),
+    };
+    let Builder { cells, names: _ } = builder;
+    if let Err(error) = check_count(alloc, cells.as_slice()) {
+        return Err(error);
+    }
+    Ok(make_library(header, cells))
+}
+
+/// Reads a library: its units, and its cells with their pins, arcs and lookup tables, in the order of the file.
 ///
-/// The root's name is `library`. Its simple attribute `leakage_power_unit` gives the unit of leakage, and may be missing.
-/// Each group `cell` directly in it is a cell, whose name is the first of the group's args, and whose simple attribute
-/// `cell_leakage_power` is its leakage. Of an attribute given twice in one group the last counts. All else is passed over.
+/// Of an attribute, a table of one kind in one `timing` group, or a template given twice, the last counts. Cells outside of the
+/// profile are passed over. Times are in millionths of 1 ps, capacitances in millionths of 1 fF, leakage and area in millionths of
+/// the library's unit.
 ///
 /// # Errors
 ///
-/// The first of these, where the faults of cells come in the order of the file: `Missing` of the `Library`; `BadUnit`; for
-/// each cell `TwoCells`, `Missing` of the `Leakage`, `BadNumber`; last `TooMany`. `Mem` where memory ran out.
-pub fn read_leaks(alloc: Global, root: &Group) -> Result<Leaks, LibErr>
-    // What is read is a library's tree, and this is its table.
-    ensures ok { IfOk result (λ t. LeaksOf root.now t) }
-    // The tree of a library is read as its one table, unless memory runs out.
-    ensures only { (t : LeakTable) → LeaksOf root.now t → MatchResult result (λ found. found ≡ t) (λ e. e ≡ LibErr.Mem) }
-    // Each refusal comes only by its cause.
+/// The first of these: `Missing` of the `Library`; `NoUnit`; `BadUnit`; `BadNumber` of the library; then for each cell of the
+/// profile, in the order of the file, `TwoCells`, `Missing`, `BadNumber`, `BadTable`; last `TooMany`. `Mem` where memory ran out.
+pub fn read_library(alloc: Global, root: &Group) -> Result<Library, LibErr>
+    // What is read is the library of the tree.
+    ensures ok { IfOk result (λ l. IsLibraryOf root.now l) }
+    // The tree of a library is read as its one library, unless memory runs out.
+    ensures only { IsOnly LibErr.Mem (IsLibraryOf root.now) result }
+    // Each refusal comes only by its cause: it is the first that stands,
     ensures err { IfErr result (λ e. HasCause root.now e) }
-    // Where a cause stands, that refusal comes, unless memory runs out.
-    ensures exact { (e : LibErr) → e ≢ LibErr.Mem → HasCause root.now e → MatchResult result (λ t. ⊥) (λ f. (f ≡ e) ⊎ (f ≡ LibErr.Mem)) }
-    // The answer is a function of the tree, unless memory runs out.
-    ensures function { MatchResult result (λ t. leaks_of root.now ≡ Ok t) (λ e. Fails e (leaks_of root.now)) }
+    // and where a cause stands, its refusal comes, unless memory runs out.
+    ensures exact { IsExact LibErr.Mem (HasCause root.now) result }
+    // Each tree has a library, or a cause other than want of memory.
+    ensures decided { IsDecided LibErr.Mem (IsLibraryOf root.now) (HasCause root.now) }
 {
     let read = read_root(alloc, root.root());
     read

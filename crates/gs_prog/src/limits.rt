@@ -10,14 +10,21 @@ use std::test::Fail;
 /// A netlist without an instance.
 const EMPTY: &[u8] = b"module e; endmodule";
 
-/// A library of so many cells.
+/// What a cell of these libraries says after its name: it is an inverter.
+const INVERTER: &[u8] =
+    b") { cell_leakage_power : 1; dont_use : true; pin (a) { direction : input; capacitance : 1; } pin (o) { direction : output; function : \"!a\"; } }";
+
+/// A library of so many cells, which are marked, so that none may take the place of another.
 fn many_cells(alloc: Global, count: u32) -> Result<Vec<u8>, AllocError> {
-    let mut text = Vec::from_slice(alloc, b"library (l) {")?;
+    let mut text = Vec::from_slice(
+        alloc,
+        b"library (l) { time_unit : \"1ps\"; capacitive_load_unit (1, ff); ",
+    )?;
     for k in 0..count {
         let mut digits = Buffer::new();
         text.extend_from_slice(b"cell (c")?;
         text.extend_from_slice(digits.format(k).as_bytes())?;
-        text.extend_from_slice(b") { cell_leakage_power : 1 ; }")?;
+        text.extend_from_slice(INVERTER)?;
     }
     text.extend_from_slice(b"}")?;
     Ok(text)

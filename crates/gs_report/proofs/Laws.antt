@@ -5,14 +5,14 @@ use Rattle.std.proofs.lemmas.List.Sums.{prefix_len-le-length}
 use Rattle.std.specs.List.{AllByRecursion}
 use Rattle.std.specs.Option.{is_some}
 use Rattle.std.specs.Prelude.{unwrap_or}
-use Rattle.gs_lib.specs.Table.{leakage_of}
-use Rattle.gs_lib.specs.declared.row.LeakRow.{LeakRow}
+use Rattle.gs_report.specs.Leakage.{leakage_of}
+use Rattle.gs_lib.specs.Draft.{CellLists}
 use Rattle.gs_report.specs.Sum.{is_known, known_of, leakage_at, total_of, sum_of, HaveLeakages, IsSum, IsFirstUnknown, HasCause}
 use Rattle.gs_report.specs.declared.error.SumErr.{SumErr}
 use Rattle.gs_report.specs.declared.error.SumErr.TheVariants.{UnknownCell, TooMany}
 use Rattle.gs_verilog.specs.declared.parts.RawInst.{RawInst}
 
-module _ (rows : List LeakRow) where
+module _ (rows : List CellLists) where
   leak : RawInst → Option ℤ
   leak i = leakage_of rows i.cell
 

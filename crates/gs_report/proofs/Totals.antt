@@ -4,10 +4,10 @@ use Rattle.std.proofs.lemmas.Int.{ints}
 use Rattle.std.proofs.lemmas.List.Sums.{fold_more}
 use Rattle.std.specs.Prelude.{unwrap_or}
 use Rattle.std.specs.Option.{is_some}
-use Rattle.gs_lib.specs.Table.{leakage_of}
-use Rattle.gs_lib.specs.declared.row.LeakRow.{LeakRow}
+use Rattle.gs_report.specs.Leakage.{leakage_of}
+use Rattle.gs_lib.specs.Draft.{CellLists}
 use Rattle.gs_report.specs.Sum.{is_known, leakage_at, total_of}
-use Rattle.gs_lib.specs.Amount.{IsAmount}
+use Rattle.gs_design.specs.Amounts.{IsAmount}
 use Rattle.gs_verilog.specs.declared.parts.RawInst.{RawInst}
 
 -- the sum as it is added in so many bits
@@ -15,7 +15,7 @@ added : (sum m : ℤ) (k : ℕ) → k < 2097152 → pos 0 ≤ℤ sum → sum ≤
     → to_z w64 (of_z w64 (sum +ℤ to_z w64 (of_z w64 m))) ≡ sum +ℤ m
 added sum m k lt low high h = omega (arith, ints, low, high, h.0, h.1)
 
-module _ (rows : List LeakRow) (insts : List RawInst) (k : ℕ) (d : RawInst) (lt : k < length insts) (few : length insts < 2097152) where
+module _ (rows : List CellLists) (insts : List RawInst) (k : ℕ) (d : RawInst) (lt : k < length insts) (few : length insts < 2097152) where
   summed : (sum m : ℤ) → leakage_of rows (get_or insts k d).cell ≡ Some m → sum ≡ total_of rows (take k insts) → sum +ℤ m ≡ total_of rows (take (k + 1) insts)
   summed sum m e so_far =
       let here : leakage_at rows (get_or insts k d) ≡ m = ap (λ o. unwrap_or o (pos 0)) e in

@@ -1,2 +1,3 @@
+pub mod Leakage
 pub mod Sum
 pub mod Text

@@ -5,7 +5,7 @@
 //!   cell the library lacks, or else that there are too many instances (`HasCause`).
 //! - [`write_leak_report`] makes the report's text (`report_text` in `specs/Text.antt`).
 //!
-//! The sum is one pass over the instances with one look into the library's ordered map for each, and takes no memory. The text
+//! The sum is one pass over the instances, each of which is looked up among the library's cells, and takes no memory. The text
 //! takes memory for itself alone.
 //!
 //! A further line of the report is a part of `report_text`, and of `write_leak_report`.

@@ -42,7 +42,7 @@ module _ (tells : Type 0) (job : Job) (old new : Seen) (s : Status) where
       → (JobLeaves tells job old.files new.files s) × (WorkCauses job old.faults new.faults s)
   stopped_by stay (ByMemory e still) = acts_by NoMemory (ap kind_of e) (inl stay) still
   stopped_by stay (ByFault file e rose reads) = acts_by (Unread file) (ap kind_of e) (stay, reads) rose
-  stopped_by stay (ByRefusal is still cause) = acts_by Refused is.kind (stay, cause) is.no_mem
+  stopped_by stay (ByRefusal is still cause) = acts_by Refused is.kind (stay, cause) (is.no_mem, still)
 
   pub stopped : Prepares tells (command_of job) (input_of job) old new (Err s) → Acts tells job old new s
   stopped h =
@@ -67,7 +67,7 @@ module _ (tells : Type 0) (job : Job) (old new : Seen) (s : Status) where
     unfolding of_plan
     stored_by (inl h) =
         let succeeds = subst (command_of job).succeeds (sym h.0) prepared.answer.1.success in
-        acts_by Success (is_success job s succeeds) (of_plan Console h.1, h.0) succeeds
+        acts_by Success (is_success job s succeeds) (of_plan Console h.1, h.0) (succeeds, stay_on old.faults mid.faults new.faults prepared.answer.0 h.2)
     stored_by (inr h) = stops_by h.to h.file (of_plan h.to h.stored) h.fails
 
     pub stored : Ends tells (output_of job) plan mid new s → Acts tells job old new s

@@ -1,6 +1,6 @@
 -- The words of a command, and the job that they make.
 use Rattle.std.proofs.Common.{◌≡◌, refl, sym, subst, ℕ, ◌<◌, ◌==◌, ◌&&◌, Bool, true, false, List, [], ◌∷◌, Some, length, map, arith}
-use Rattle.gs_top.specs.Job.{are_given, is_good, is_size, size_of, size_with, size_options}
+use Rattle.gs_top.specs.Job.{are_given, is_good, is_size, size_of, size_with, size_options, value_of}
 use Rattle.gs_top.specs.declared.job.Job.TheVariants.{Size}
 use Rattle.gs_top.specs.declared.job.SizeJob.{SizeJob}
 
@@ -11,6 +11,12 @@ given_few f g [] ws h k = absurd cc
 given_few f g (o ∷ os) [] h k = refl
 given_few f g (o ∷ os) (w ∷ []) h k = refl
 given_few f g (o ∷ os) (w ∷ v ∷ ws) h k = absurd (omega (arith, k))
+
+-- too few words for a value
+pub value_few : {Y : Type 0} (o : List ℕ) (g : Y → List ℕ) (ws : List Y) → length ws < 2 → [] ≡ value_of o (map g ws)
+value_few o g [] k = refl
+value_few o g (w ∷ []) k = refl
+value_few o g (w ∷ v ∷ ws) k = absurd (omega (arith, k))
 
 both : (a b : Bool) → (a && b) ≡ true → b ≡ true
 both true b h = h

@@ -48,9 +48,11 @@ tree_split tree.Mem = inl refl
 
 pub lib_split : (e : LibErr) → Split lib.Mem lib_status e
 lib_split (lib.Missing cell what) = inr (λ h. cc, record { kind = refl; no_mem = λ h. cc })
+lib_split lib.NoUnit = inr (λ h. cc, record { kind = refl; no_mem = λ h. cc })
 lib_split lib.BadUnit = inr (λ h. cc, record { kind = refl; no_mem = λ h. cc })
 lib_split (lib.TwoCells name) = inr (λ h. cc, record { kind = refl; no_mem = λ h. cc })
 lib_split (lib.BadNumber cell) = inr (λ h. cc, record { kind = refl; no_mem = λ h. cc })
+lib_split (lib.BadTable cell i) = inr (λ h. cc, record { kind = refl; no_mem = λ h. cc })
 lib_split lib.TooMany = inr (λ h. cc, record { kind = refl; no_mem = λ h. cc })
 lib_split lib.Mem = inl refl
 

@@ -9,7 +9,7 @@ use Rattle.gs_top.specs.Answer.{Seen}
 use Rattle.gs_top.specs.Job.{input_of, output_of}
 use Rattle.gs_top.specs.Kind.{Kind, Success, NoJob, Unread, Refused, Unwritten, Unsaid, NoMemory, kind_of}
 use Rattle.gs_top.specs.Line.{line_of, unsaid, unsaid_by, Ended, Whole, Failed, NoRoom, IsSaid}
-use Rattle.gs_top.specs.Run.{StoredOf, FirstRefusalOf, IsAccepted, LeavesBy, JobLeaves, LeavesOf, WorkCausesBy, WorkCauses, CausesBy, CausesOf, NoneRose, IsDone, FirstRefusalBy, AnswersBy, AnswersRefusal, SaysLine, SaysBy, SaysOf}
+use Rattle.gs_top.specs.Run.{StoredOf, FirstRefusalOf, IsAccepted, LeavesBy, JobLeaves, LeavesOf, WorkCausesBy, WorkCauses, StillButSaying, IsWorkOf, CausesBy, CausesOf, NoneRose, IsDone, FirstRefusalBy, AnswersBy, AnswersRefusal, SaysLine, SaysBy, SaysOf}
 use Rattle.gs_top.specs.declared.job.Job.{Job}
 use Rattle.gs_top.specs.declared.status.Output.{Output}
 use Rattle.gs_top.specs.declared.status.Output.TheVariants.{Console}
@@ -25,7 +25,7 @@ no_memory _ h = absurd cc
 -- what a run leaves, why, and what it says, by its status's kind
 pub record Runs (tells : Type 0) (job : Job) (old new : Seen) (s : Status) (kind : Kind) : Type 0 where
   pub leaves : LeavesBy tells job old.files new.files s kind
-  pub causes : CausesBy job old.faults new.faults s kind
+  pub causes : CausesBy tells job old.files new.files old.faults new.faults s kind
   pub says : tells → SaysBy tells job old.files new.files old.faults new.faults old.said new.said s kind
   pub silent : s ≡ OutOfMemory → new.said ≡ old.said
 
@@ -59,7 +59,7 @@ module _ (tells : Type 0) (job : Job) (old mid new : Seen) (s : Status) (acts : 
   whole_by (Unread file) e leaves causes quiet said =
       record { leaves = leaves; causes = causes; says = λ t. inl (said t); silent = λ is. quiet (ap line_of is) }
   whole_by Refused e leaves causes quiet said =
-      record { leaves = leaves; causes = causes; says = λ t. inl (said t); silent = λ is. quiet (ap line_of is) }
+      record { leaves = leaves; causes = (causes.0, inl causes.1); says = λ t. inl (said t); silent = λ is. quiet (ap line_of is) }
   whole_by (Unwritten to) e leaves causes quiet said =
       record { leaves = leaves; causes = causes; says = λ t. inl (said t); silent = λ is. quiet (ap line_of is) }
   whole_by Unsaid e leaves causes quiet said = absurd causes
@@ -67,7 +67,7 @@ module _ (tells : Type 0) (job : Job) (old mid new : Seen) (s : Status) (acts : 
       let none = quiet (ap line_of (no_memory s e)) in
       let work : WorkCauses job old.faults new.faults s = subst (WorkCausesBy job old.faults new.faults s) (sym e) causes in
       let left : JobLeaves tells job old.files new.files s = subst (LeavesBy tells job old.files new.files s) (sym e) leaves in
-      record { leaves = leaves; causes = (s, work); says = λ t. (none, (s, left, work)); silent = λ is. none }
+      record { leaves = leaves; causes = (s, record { leaves = left; causes = work }); says = λ t. none; silent = λ is. none }
 
   -- the console failed while the line was said
   failed_by : (k : Kind) → kind_of s ≡ k → LeavesBy tells job old.files new.files s k → WorkCausesBy job old.faults mid.faults s k
@@ -75,14 +75,14 @@ module _ (tells : Type 0) (job : Job) (old mid new : Seen) (s : Status) (acts : 
       → Runs tells job old new (unsaid_by s k) (kind_of (unsaid_by s k))
   failed_by Success e leaves causes later ne rose part =
       let left : JobLeaves tells job old.files new.files s = subst (LeavesBy tells job old.files new.files s) (sym e) leaves in
-      record { leaves = leaves.0; causes = rose; says = λ t. (s, e, left, causes, part t); silent = λ is. absurd cc }
+      record { leaves = leaves.0; causes = rose; says = λ t. (s, e, left, causes.0, part t); silent = λ is. absurd cc }
   failed_by NoJob e leaves causes later ne rose part = absurd leaves
   failed_by (Unread file) e leaves causes later ne rose part =
       let name = input_of job file in
       let risen = rose_longer (old.faults Fetch name) (mid.faults Fetch name) (new.faults Fetch name) causes (later Fetch name) in
       subst (Runs tells job old new s) (sym e) (record { leaves = leaves; causes = risen; says = λ t. inr (rose, part t); silent = λ is. absurd (ne (ap line_of is)) })
   failed_by Refused e leaves causes later ne rose part =
-      subst (Runs tells job old new s) (sym e) (record { leaves = leaves; causes = causes; says = λ t. inr (rose, part t); silent = λ is. absurd (ne (ap line_of is)) })
+      subst (Runs tells job old new s) (sym e) (record { leaves = leaves; causes = (causes.0, inr rose); says = λ t. inr (rose, part t); silent = λ is. absurd (ne (ap line_of is)) })
   failed_by (Unwritten to) e leaves causes later ne rose part =
       let name = output_of job to in
       let risen = rose_longer (old.faults Store name) (mid.faults Store name) (new.faults Store name) causes (later Store name) in
@@ -105,15 +105,15 @@ module _ (tells : Type 0) (job : Job) (old mid new : Seen) (s : Status) (acts : 
       let none = quiet ∙ acts.said in
       subst At (sym e) (record {
         leaves = lost_leaves tells job old.files new.files s OutOfMemory (kind_of s) left;
-        causes = (s, work);
-        says = λ t. (none, (s, left, work));
+        causes = (s, record { leaves = left; causes = work });
+        says = λ t. none;
         silent = λ is. none;
       })
 
 -- the same of words that make this job, or none
 pub record Ran (tells : Type 0) (o : Option Job) (old new : Seen) (r : Status) : Type 0 where
   pub leaves : LeavesOf tells o old.files new.files r
-  pub causes : CausesOf o old.faults new.faults r
+  pub causes : CausesOf tells o old.files new.files old.faults new.faults r
   pub says : tells → SaysOf tells o old.files new.files old.faults new.faults old.said new.said r
   pub silent : r ≡ OutOfMemory → new.said ≡ old.said
   pub later : NoneFell old.faults new.faults
@@ -131,7 +131,7 @@ module _ (tells : Type 0) (old mid new : Seen) (s r : Status) (d : Declines old 
       let line : tells → new.said ≡ old.said ++ line_of Usage = λ t. subst (λ x. new.said ≡ mid.said ++ line_of x) d.usage (said t) ∙ ap (λ x. x ++ line_of Usage) d.said in
       record {
         leaves = λ name. stay name ∙ d.stay name;
-        causes = inl is;
+        causes = inl (is, inl (stay_on old.faults mid.faults new.faults d.still still));
         says = λ t. subst (λ x. SaysLine (line_of x) old.faults new.faults old.said new.said) (sym is) (inl (line t));
         silent = λ h. absurd (apart r is h);
         later = fell;
@@ -142,7 +142,7 @@ module _ (tells : Type 0) (old mid new : Seen) (s r : Status) (d : Declines old 
       let front : tells → GrewByPart (line_of Usage) old.said new.said = λ t. subst (λ x. GrewByPart (line_of x) old.said new.said) d.usage (subst (λ x. GrewByPart (line_of s) x new.said) d.said (part t)) in
       record {
         leaves = λ name. stay name ∙ d.stay name;
-        causes = inl is;
+        causes = inl (is, inr risen);
         says = λ t. subst (λ x. SaysLine (line_of x) old.faults new.faults old.said new.said) (sym is) (inr (risen, front t));
         silent = λ h. absurd (apart r is h);
         later = fell;
@@ -164,8 +164,8 @@ ran tells (Some job) old mid new s r acts h =
 -- ## What comes where nothing fails
 
 module _ (tells : Type 0) (job : Job) (old new : Files) (before now : Counts) (s : Status) where
-  complete_by : (k : Kind) → kind_of s ≡ k → LeavesBy tells job old new s k → CausesBy job before now s k → tells → IsAccepted job old → NoneRose before now → IsDone job s
-  complete_by Success e leaves causes t accepted none = inl causes
+  complete_by : (k : Kind) → kind_of s ≡ k → LeavesBy tells job old new s k → CausesBy tells job old new before now s k → tells → IsAccepted job old → NoneRose before now → IsDone job s
+  complete_by Success e leaves causes t accepted none = inl causes.0
   complete_by NoJob e leaves causes t accepted none = absurd leaves
   complete_by (Unread file) e leaves causes t accepted none = absurd (none Fetch (input_of job file) causes)
   complete_by Refused e leaves causes t accepted none = absurd ((leaves.1 t).nothing accepted.0 accepted.1)
@@ -197,11 +197,11 @@ refused_none refusal r e (inl h) =
     subst (λ x. AnswersRefusal refusal x) (sym h) (subst (λ x. AnswersRefusal x Usage) (sym e) refl)
 refused_none refusal r e (inr h) = subst (λ x. AnswersRefusal refusal x) (sym h) tt
 
-or_memory : (r : Status) (still : Type 0) → (r ≡ Usage) ⊎ ((r ≡ OutOfMemory) × still) → (r ≡ Usage) ⊎ (r ≡ OutOfMemory)
-or_memory r still (inl h) = inl h
-or_memory r still (inr h) = inr h.0
+or_memory : (r : Status) (quiet still : Type 0) → ((r ≡ Usage) × quiet) ⊎ ((r ≡ OutOfMemory) × still) → (r ≡ Usage) ⊎ (r ≡ OutOfMemory)
+or_memory r quiet still (inl h) = inl h.0
+or_memory r quiet still (inr h) = inr h.0
 
 pub exact : (tells : Type 0) (o : Option Job) (old new : Seen) (r : Status) → Ran tells o old new r → tells → (refusal : Status) → FirstRefusalBy o old.files refusal → AnswersRefusal refusal r
-exact tells None old new r h t refusal e = refused_none refusal r e (or_memory r (CountsStay old.faults new.faults) h.causes)
+exact tells None old new r h t refusal e = refused_none refusal r e (or_memory r (StillButSaying old.faults new.faults) (CountsStay old.faults new.faults) h.causes)
 exact tells (Some job) old new r h t refusal cause =
     exact_by tells job old.files new.files old.faults new.faults r (kind_of r) h.leaves t refusal cause

@@ -1,5 +1,5 @@
 -- The form of a command's words, and the job that they make.
-use Rattle.std.specs.Prelude.{◌≡◌, ℕ, ◌+◌, ◌*◌, Bool, true, false, not, ◌&&◌, ◌==◌, List, [], ◌∷◌, Option, Some, None, Result, Ok, Err, length, slice_index_or, codes, if◌then◌else◌}
+use Rattle.std.specs.Prelude.{◌≡◌, ℕ, Bool, true, false, not, ◌&&◌, ◌==◌, List, [], ◌∷◌, Option, Some, None, Result, Ok, Err, length, codes, if◌then◌else◌}
 use Rattle.std.specs.List.{list_any}
 use Rattle.std.specs.Str.{bytes_eq}
 use Rattle.gs_top.specs.declared.job.Job.{Job}
@@ -22,16 +22,17 @@ are_given [] [] = true
 are_given (o ∷ os) (w ∷ value ∷ ws) = bytes_eq w o && are_given os ws
 are_given _ _ = false
 
--- the value of option number k, counted from 0
-abbrev pub value_at : (words : List (List ℕ)) → ℕ → List ℕ
-value_at words k = slice_index_or words (2 * k + 1) []
+-- the value of this option among words of options and their values; empty where it is not given
+abbrev pub value_of : (option : List ℕ) → (words : List (List ℕ)) → List ℕ
+value_of option (w ∷ value ∷ ws) = if bytes_eq w option then value else value_of option ws
+value_of option _ = []
 
 abbrev pub size_with : List (List ℕ) → SizeJob
 size_with words = record {
-  lib = value_at words 0;
-  verilog = value_at words 1;
-  sizes = value_at words 2;
-  report = value_at words 3;
+  lib = value_of (codes "--lib") words;
+  verilog = value_of (codes "--verilog") words;
+  sizes = value_of (codes "--sizes") words;
+  report = value_of (codes "--report") words;
 }
 
 -- no name is empty, and all differ

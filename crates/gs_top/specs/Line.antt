@@ -33,9 +33,11 @@ why_name NoEnd = codes "noend"
 
 abbrev pub lib_name : LibErr → List ℕ
 lib_name (lib.Missing cell what) = codes "missing"
+lib_name lib.NoUnit = codes "nounit"
 lib_name lib.BadUnit = codes "badunit"
 lib_name (lib.TwoCells name) = codes "twocells"
 lib_name (lib.BadNumber cell) = codes "badnumber"
+lib_name (lib.BadTable cell i) = codes "badtable"
 lib_name lib.TooMany = codes "toomany"
 lib_name lib.Mem = codes "mem"
 

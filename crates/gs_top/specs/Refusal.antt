@@ -30,9 +30,11 @@ tree_status tree.Mem = OutOfMemory
 -- of a library
 abbrev pub lib_status : LibErr → Status
 lib_status (lib.Missing cell what) = BadLibrary (lib.Missing cell what)
+lib_status lib.NoUnit = BadLibrary lib.NoUnit
 lib_status lib.BadUnit = BadLibrary lib.BadUnit
 lib_status (lib.TwoCells name) = BadLibrary (lib.TwoCells name)
 lib_status (lib.BadNumber cell) = BadLibrary (lib.BadNumber cell)
+lib_status (lib.BadTable cell i) = BadLibrary (lib.BadTable cell i)
 lib_status lib.TooMany = BadLibrary lib.TooMany
 lib_status lib.Mem = OutOfMemory
 

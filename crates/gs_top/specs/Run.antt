@@ -62,12 +62,12 @@ Leaves tells words old new s = LeavesOf tells (job_of words) old new s
 -- ## Why it ended so
 
 -- What stands behind the status of a job's work, on every shelf: a success is the command's own, a refusal of a library holds no want
--- of memory, at a fault the count of that file rose, and want of memory comes with no count changed.
+-- of memory, at a fault the count of that file rose, and all else comes with no count changed.
 abbrev pub WorkCausesBy : Job → Counts → Counts → Status → Kind → Type 0
-WorkCausesBy job old new s Success = (command_of job).succeeds s
+WorkCausesBy job old new s Success = (command_of job).succeeds s × CountsStay old new
 WorkCausesBy job old new s NoJob = ⊥
 WorkCausesBy job old new s (Unread file) = Rose (old Fetch (input_of job file)) (new Fetch (input_of job file))
-WorkCausesBy job old new s Refused = HoldsNoMem s
+WorkCausesBy job old new s Refused = HoldsNoMem s × CountsStay old new
 WorkCausesBy job old new s (Unwritten to) = Rose (old Store (output_of job to)) (new Store (output_of job to))
 WorkCausesBy job old new s Unsaid = ⊥
 WorkCausesBy job old new s NoMemory = CountsStay old new
@@ -75,21 +75,31 @@ WorkCausesBy job old new s NoMemory = CountsStay old new
 abbrev pub WorkCauses : Job → Counts → Counts → Status → Type 0
 WorkCauses job old new s = WorkCausesBy job old new s (kind_of s)
 
+-- a refusal's line was said with no fault, or the console failed
+abbrev pub StillButSaying : Counts → Counts → Type 0
+StillButSaying old new = CountsStay old new ⊎ Rose (old Say []) (new Say [])
+
+-- the work of a job ended with this status: it left these files, and its causes stand
+pub record IsWorkOf (tells : Type 0) (job : Job) (old left : Files) (before now : Counts) (s : Status) : Type 0 where
+  pub leaves : JobLeaves tells job old left s
+  pub causes : WorkCauses job before now s
+
 -- The same of a run, which ends by saying the line of its work's status. A success whose line could not be said is a fault of the
--- console; want of memory is that of the work, or of the line of some status of the work.
-abbrev pub CausesBy : Job → Counts → Counts → Status → Kind → Type 0
-CausesBy job old new s Unsaid = Rose (old Say []) (new Say [])
-CausesBy job old new s NoMemory = (t : Status) × WorkCauses job old new t
-CausesBy job old new s kind = WorkCausesBy job old new s kind
+-- console. Want of memory is that of the work, or of the line of the status with which the work ended.
+abbrev pub CausesBy : (tells : Type 0) → Job → (old left : Files) → (before now : Counts) → Status → Kind → Type 0
+CausesBy tells job old left before now s Refused = HoldsNoMem s × StillButSaying before now
+CausesBy tells job old left before now s Unsaid = Rose (before Say []) (now Say [])
+CausesBy tells job old left before now s NoMemory = (t : Status) × IsWorkOf tells job old left before now t
+CausesBy tells job old left before now s kind = WorkCausesBy job before now s kind
 
 -- words that make no job are refused, unless memory for that line ran out
-abbrev pub CausesOf : Option Job → Counts → Counts → Status → Type 0
-CausesOf None old new s = (s ≡ Usage) ⊎ ((s ≡ OutOfMemory) × CountsStay old new)
-CausesOf (Some job) old new s = CausesBy job old new s (kind_of s)
+abbrev pub CausesOf : (tells : Type 0) → Option Job → (old left : Files) → (before now : Counts) → Status → Type 0
+CausesOf tells None old left before now s = ((s ≡ Usage) × StillButSaying before now) ⊎ ((s ≡ OutOfMemory) × CountsStay before now)
+CausesOf tells (Some job) old left before now s = CausesBy tells job old left before now s (kind_of s)
 
--- `Usage` comes exactly where the words make no job, and a fault only where its count rose
-abbrev pub Causes : List (List ℕ) → Counts → Counts → Status → Type 0
-Causes words old new s = CausesOf (job_of words) old new s
+-- `Usage` comes exactly where the words make no job, a fault only where its count rose, and all else with no fault but of the console
+abbrev pub Causes : (tells : Type 0) → List (List ℕ) → (old left : Files) → (before now : Counts) → Status → Type 0
+Causes tells words old left before now s = CausesOf tells (job_of words) old left before now s
 
 -- ## What comes where nothing fails
 
@@ -125,13 +135,12 @@ abbrev pub SaysLine : List ℕ → (old new : Counts) → (said saying : List �
 SaysLine line old new said saying = (saying ≡ said ++ line) ⊎ (Rose (old Say []) (new Say []) × GrewByPart line said saying)
 
 -- What was said after a job: the line of its status. Where a success could not be said, a part of that success's line; after want of
--- memory nothing, and there is a status that it came in place of.
+-- memory nothing.
 abbrev pub SaysBy : (tells : Type 0) → Job → Files → Files → Counts → Counts → (said saying : List ℕ) → Status → Kind → Type 0
 SaysBy tells job old left before now said saying s Success = saying ≡ said ++ line_of s
 SaysBy tells job old left before now said saying s Unsaid =
     (t : Status) × (kind_of t ≡ Success) × JobLeaves tells job old left t × (command_of job).succeeds t × GrewByPart (line_of t) said saying
-SaysBy tells job old left before now said saying s NoMemory =
-    (saying ≡ said) × ((t : Status) × JobLeaves tells job old left t × WorkCauses job before now t)
+SaysBy tells job old left before now said saying s NoMemory = saying ≡ said
 SaysBy tells job old left before now said saying s kind = SaysLine (line_of s) before now said saying
 
 abbrev pub SaysOf : (tells : Type 0) → Option Job → Files → Files → Counts → Counts → (said saying : List ℕ) → Status → Type 0

@@ -15,4 +15,4 @@ sizes_text is = flat_map sizes_line is
 
 -- the report of the sum of the leakage, in the library's unit
 abbrev pub report_text : Design → List ℕ
-report_text d = report.report_text d.total d.leaks.unit
+report_text d = report.report_text d.total d.library.leak_unit

@@ -1,16 +1,17 @@
 //! Reading the library.
 ghost use Rattle.std.specs.Prelude.{◌≡◌, ◌≤◌, length};
-ghost use Rattle.gs_lib.specs.Cells.{LeaksOf};
+ghost use Rattle.gs_lib.specs.Library.{IsLibraryOf};
 ghost use Rattle.gs_libtree.specs.Refusal.{IsLiberty};
 ghost use Rattle.gs_text.specs.Bytes.{max_text};
 ghost use Rattle.gs_top.specs.Answer.{Settles, Works, seen};
-ghost use Rattle.gs_top.specs.Design.{LeaksCause, LibertyCause, liberty, library};
+ghost use Rattle.gs_top.specs.Design.{LibertyCause, LibraryCause, liberty, library};
 ghost use Rattle.gs_top.specs.Refusal.{lib_status, tree_status};
 
 use crate::fetch::fetch_file;
 use crate::files::JobFiles;
 use crate::status::{Input, Status, TextWhy};
-use gs_lib::{Leaks, LibErr, read_leaks};
+use gs_design::Library;
+use gs_lib::{LibErr, read_library};
 use gs_libtree::{Group, LibTextErr, read_tree};
 use gs_shelf::Shelf;
 use std::alloc::Global;
@@ -38,9 +39,11 @@ fn lib_status(error: LibErr) -> Status
     match error {
         LibErr::Mem => Status::OutOfMemory,
         LibErr::Missing { .. }
+        | LibErr::NoUnit
         | LibErr::BadUnit
         | LibErr::TwoCells { .. }
         | LibErr::BadNumber { .. }
+        | LibErr::BadTable { .. }
         | LibErr::TooMany => Status::BadLibrary(error),
     }
 }
@@ -70,12 +73,12 @@ fn load_liberty<J: JobFiles, H: Shelf>(
     }
 }
 
-/// The leakage of a library's cells.
-fn read_cells(alloc: Global, root: &Group) -> Result<Leaks, Status>
-    ensures { Settles (LeaksOf root.now) (LeaksCause root.now) result }
+/// The library of its tree.
+fn read_cells(alloc: Global, root: &Group) -> Result<Library, Status>
+    ensures { Settles (IsLibraryOf root.now) (LibraryCause root.now) result }
 {
-    match read_leaks(alloc, root) {
-        Ok(leaks) => Ok(leaks),
+    match read_library(alloc, root) {
+        Ok(library) => Ok(library),
         Err(error) => Err(lib_status(error)),
     }
 }
@@ -85,7 +88,7 @@ pub(crate) fn load_library<J: JobFiles, H: Shelf>(
     alloc: Global,
     shelf: &mut H,
     job: &J,
-) -> Result<Leaks, Status>
+) -> Result<Library, Status>
     ensures { Works H.tells library (J.inputs job.now) (seen (H.files shelf.old) (H.said shelf.old) (H.faults shelf.old)) (seen (H.files shelf.new) (H.said shelf.new) (H.faults shelf.new)) result }
 {
     match load_liberty(alloc, shelf, job) {

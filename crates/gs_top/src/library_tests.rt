@@ -54,18 +54,41 @@ const CHAIN: &str =
 /// The library of `examples/registered_path`.
 const PATH_LIBRARY: &str = "/* A NAND gate, two inverters and a flip-flop. */
 library (registered_path) {
+  time_unit : \"1ps\" ;
+  capacitive_load_unit (1, ff) ;
   leakage_power_unit : \"1uW\" ;
   cell (N2) {
     cell_leakage_power : 4 ;
+    pin (a, b) { direction : input ; capacitance : 2 ; }
+    pin (o) { direction : output ; function : \"!(a*b)\" ; }
   }
   cell (I1) {
     cell_leakage_power : 1 ;
+    pin (a) { direction : input ; capacitance : 1 ; }
+    pin (o) { direction : output ; function : \"!a\" ; }
   }
   cell (I2) {
     cell_leakage_power : 3 ;
+    pin (a) { direction : input ; capacitance : 2 ; }
+    pin (o) { direction : output ; function : \"!a\" ; }
   }
   cell (F1) {
     cell_leakage_power : 5 ;
+    ff (\"IQ\", \"IQN\") { next_state : \"d\" ; clocked_on : \"ck\" ; }
+    pin (ck) { direction : input ; capacitance : 1 ; clock : true ; }
+    pin (d) { direction : input ; capacitance : 1 ; }
+    pin (q) {
+      direction : output ;
+      function : \"IQ\" ;
+      timing () {
+        related_pin : \"ck\" ;
+        timing_type : rising_edge ;
+        cell_rise (scalar) { values (\"10\") ; }
+        cell_fall (scalar) { values (\"10\") ; }
+        rise_transition (scalar) { values (\"2\") ; }
+        fall_transition (scalar) { values (\"2\") ; }
+      }
+    }
   }
 }
 ";
@@ -189,8 +212,8 @@ fn names_of_300_bytes_and_a_unit_of_16(rt: HostRuntime) -> Result<(), Fail> {
     let alloc = rt.alloc();
     let library = around_name(
         alloc,
-        b"library (l) { leakage_power_unit : \"1234567890abcdef\" ; cell (",
-        b") { cell_leakage_power : 1 ; } }",
+        b"library (l) { time_unit : \"1ps\"; capacitive_load_unit (1, ff); leakage_power_unit : \"1234567890abcdef\" ; cell (",
+        b") { cell_leakage_power : 1 ; pin (a) { direction : input; capacitance : 1; } pin (o) { direction : output; function : \"!a\"; } } }",
     )?;
     let mut netlist = around_name(alloc, b"module m; ", b" ")?;
     netlist.extend_from_slice(around_name(alloc, b"", b" (); endmodule")?.as_slice())?;

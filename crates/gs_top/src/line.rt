@@ -37,9 +37,11 @@ fn lib_name(error: &LibErr) -> &'static str
 {
     match error {
         LibErr::Missing { .. } => "missing",
+        LibErr::NoUnit => "nounit",
         LibErr::BadUnit => "badunit",
         LibErr::TwoCells { .. } => "twocells",
         LibErr::BadNumber { .. } => "badnumber",
+        LibErr::BadTable { .. } => "badtable",
         LibErr::TooMany => "toomany",
         LibErr::Mem => "mem",
     }

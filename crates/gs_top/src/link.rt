@@ -11,7 +11,7 @@ use crate::files::JobFiles;
 use crate::library::load_library;
 use crate::netlist::load_netlist;
 use crate::status::{Counted, LinkErr, Status};
-use gs_lib::Leaks;
+use gs_design::Library;
 use gs_report::{SumErr, sum_leakage};
 use gs_shelf::Shelf;
 use gs_text::Name;
@@ -51,13 +51,13 @@ fn sum_status(alloc: Global, insts: &[RawInst], error: SumErr) -> Status
 }
 
 /// The design of a library and a netlist.
-fn link(alloc: Global, leaks: Leaks, netlist: Netlist) -> Result<Design, Status>
-    ensures settles { Settles (IsLinked leaks netlist) (LinkCause leaks netlist) result }
+fn link(alloc: Global, library: Library, netlist: Netlist) -> Result<Design, Status>
+    ensures settles { Settles (IsLinked library netlist) (LinkCause library netlist) result }
     ensures few { IfOk result (λ d. length d.netlist.insts < 2 ^ 21) }
 {
-    match sum_leakage(&netlist, &leaks) {
+    match sum_leakage(&netlist, &library) {
         Ok(total) => Ok(Design {
-            leaks,
+            library,
             netlist,
             total,
         }),
@@ -74,13 +74,13 @@ pub(crate) fn load_design<J: JobFiles, H: Shelf>(
     ensures work { Works H.tells design (J.inputs job.now) (seen (H.files shelf.old) (H.said shelf.old) (H.faults shelf.old)) (seen (H.files shelf.new) (H.said shelf.new) (H.faults shelf.new)) result }
     ensures few { IfOk result (λ d. length d.netlist.insts < 2 ^ 21) }
 {
-    let leaks = match load_library(alloc, shelf, job) {
-        Ok(leaks) => leaks,
+    let library = match load_library(alloc, shelf, job) {
+        Ok(library) => library,
         Err(status) => return Err(status),
     };
     let netlist = match load_netlist(alloc, shelf, job) {
         Ok(netlist) => netlist,
         Err(status) => return Err(status),
     };
-    link(alloc, leaks, netlist)
+    link(alloc, library, netlist)
 }

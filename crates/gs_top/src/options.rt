@@ -1,8 +1,8 @@
 //! The words of a command: each of its options in a fixed order, followed by one value.
-ghost use Rattle.std.specs.Prelude.{◌≡◌, ◌<◌, ◌+◌, ◌*◌, length, map, string_bytes};
+ghost use Rattle.std.specs.Prelude.{◌≡◌, map, string_bytes};
 ghost use Rattle.std.specs.List.{list_any};
 ghost use Rattle.std.specs.Str.{bytes_eq};
-ghost use Rattle.gs_top.specs.Job.{are_given, are_names, value_at};
+ghost use Rattle.gs_top.specs.Job.{are_given, are_names, value_of};
 
 /// Whether the words are these options in this order, each followed by one value.
 pub(crate) fn are_given(options: &[&str], words: &[String]) -> bool
@@ -17,12 +17,17 @@ pub(crate) fn are_given(options: &[&str], words: &[String]) -> bool
     words[0].as_str() == options[0] && are_given(&options[1..], &words[2..])
 }
 
-/// The value of option number `k`, counted from 0.
-pub(crate) fn value_at(words: &[String], k: usize) -> &str
-    requires { 2 * k + 1 < length words.now }
-    ensures { result.now ≡ value_at (map string_bytes words.now) k }
+/// The value of an option among words of options and their values; empty where it isn't given.
+pub(crate) fn value_of<'a>(words: &'a [String], option: &str) -> &'a str
+    ensures { result.now ≡ value_of option.now (map string_bytes words.now) }
 {
-    words[2 * k + 1].as_str()
+    if words.len() < 2 {
+        return "";
+    }
+    if words[0].as_str() == option {
+        return words[1].as_str();
+    }
+    value_of(&words[2..], option)
 }
 
 /// Whether the name is among these.

@@ -106,7 +106,7 @@ pub fn run<R, H: Shelf>(_rt: &R, alloc: Global, words: &Words, shelf: &mut H) ->
     // What the files hold after each status, as far as the shelf tells; and which files stay, on every shelf.
     ensures leaves { Leaves H.tells words.now (H.files shelf.old) (H.files shelf.new) result }
     // What stands behind each status, on every shelf.
-    ensures cause { Causes words.now (H.faults shelf.old) (H.faults shelf.new) result }
+    ensures cause { Causes H.tells words.now (H.files shelf.old) (H.files shelf.new) (H.faults shelf.old) (H.faults shelf.new) result }
     // What was said with each status, on a shelf that tells.
     ensures said { H.tells → Says H.tells words.now (H.files shelf.old) (H.files shelf.new) (H.faults shelf.old) (H.faults shelf.new) (H.said shelf.old) (H.said shelf.new) result }
     // After want of memory nothing was said, on every shelf.

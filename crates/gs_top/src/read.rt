@@ -1,10 +1,10 @@
 //! Reading a command's words.
-ghost use Rattle.std.specs.Prelude.{◌≡◌, ◌<◌, true, IfOk, length, map, string_bytes};
+ghost use Rattle.std.specs.Prelude.{◌≡◌, true, IfOk, map, string_bytes};
 ghost use Rattle.gs_top.specs.Job.{job_of, is_good, is_size, size_of, size_with, IsRead};
 
 use crate::job::{Job, SizeJob};
 use crate::name::Name;
-use crate::options::{are_given, are_names, value_at};
+use crate::options::{are_given, are_names, value_of};
 use crate::words::Words;
 use gs_quantity::Mem;
 use std::alloc::Global;
@@ -18,16 +18,15 @@ pub enum WordsErr {
     Mem,
 }
 
-/// The names that follow the four options of `size`.
+/// The values of the options of `size`.
 fn copy_names(alloc: Global, words: &[String]) -> Result<SizeJob, Mem>
-    requires { 7 < length words.now }
     ensures { IfOk result (λ job. job ≡ size_with (map string_bytes words.now)) }
 {
     Ok(SizeJob {
-        lib: Name::copy_of(alloc, value_at(words, 0))?,
-        verilog: Name::copy_of(alloc, value_at(words, 1))?,
-        sizes: Name::copy_of(alloc, value_at(words, 2))?,
-        report: Name::copy_of(alloc, value_at(words, 3))?,
+        lib: Name::copy_of(alloc, value_of(words, "--lib"))?,
+        verilog: Name::copy_of(alloc, value_of(words, "--verilog"))?,
+        sizes: Name::copy_of(alloc, value_of(words, "--sizes"))?,
+        report: Name::copy_of(alloc, value_of(words, "--report"))?,
     })
 }
 
@@ -37,10 +36,10 @@ fn is_size(words: &[String]) -> bool
 {
     are_given(&["--lib", "--verilog", "--sizes", "--report"], words)
         && are_names(&[
-            value_at(words, 0),
-            value_at(words, 1),
-            value_at(words, 2),
-            value_at(words, 3),
+            value_of(words, "--lib"),
+            value_of(words, "--verilog"),
+            value_of(words, "--sizes"),
+            value_of(words, "--report"),
         ])
 }
 

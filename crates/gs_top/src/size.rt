@@ -23,7 +23,7 @@ fn plan_size(alloc: Global, design: &Design) -> Result<Plan, Mem>
 {
     let insts = design.netlist.insts();
     let sizes = sizes_text(alloc, insts)?;
-    let report = write_leak_report(alloc, design.total, design.leaks.unit())?;
+    let report = write_leak_report(alloc, design.total, &design.library.leak_unit)?;
     let mut texts = Texts::empty(alloc);
     add_text(&mut texts, Output::Sizes, sizes)?;
     add_text(&mut texts, Output::Report, report)?;

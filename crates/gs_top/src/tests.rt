@@ -9,9 +9,49 @@ use gs_shelf::{Bytes, Failures, FileList, MemShelf, NeverFails, Numbers};
 use std::alloc::{AllocError, Global};
 use std::test::Fail;
 
-/// Inverters of two sizes.
+/// Inverters of two sizes, without timing.
 const CELLS: &str =
-    "library (l) { leakage_power_unit : \"1uW\" ; cell (I1) { cell_leakage_power : 1 ; } cell (I2) { cell_leakage_power : 3 ; } }";
+    "library (l) { time_unit : \"1ps\"; capacitive_load_unit (1, ff); leakage_power_unit : \"1uW\";
+cell (I1) { cell_leakage_power : 1;
+pin (a) { direction : input; capacitance : 1; } pin (o) { direction : output; function : \"!a\"; } }
+cell (I2) { cell_leakage_power : 3;
+pin (a) { direction : input; capacitance : 2; } pin (o) { direction : output; function : \"!a\"; } } }";
+
+/// One of them alone.
+const SMALL_CELL: &str = "library (l) { time_unit : \"1ps\"; capacitive_load_unit (1, ff);
+cell (I1) { cell_leakage_power : 1;
+pin (a) { direction : input; capacitance : 1; } pin (o) { direction : output; function : \"!a\"; } } }";
+
+/// A library without cells and without a unit of leakage.
+const NO_CELLS: &str = "library (l) { time_unit : \"1ps\"; capacitive_load_unit (1, ff); }";
+
+/// Leakages of less than a millionth are rounded.
+const LITTLE: &str = "library (r) { time_unit : \"1ps\"; capacitive_load_unit (1, ff);
+cell (I2) { cell_leakage_power : 0.0000005;
+pin (a) { direction : input; capacitance : 2; } pin (o) { direction : output; function : \"!a\"; } } }";
+
+/// Two cells of one name.
+const TWO_CELLS: &str = "library (l) { time_unit : \"1ps\"; capacitive_load_unit (1, ff);
+cell (I1) { cell_leakage_power : 1;
+pin (a) { direction : input; capacitance : 1; } pin (o) { direction : output; function : \"!a\"; } }
+cell (I1) { pin (a) { direction : input; } pin (o) { direction : output; function : \"!a\"; } } }";
+
+/// A cell without a leakage.
+const NO_LEAKAGE: &str = "library (l) { time_unit : \"1ps\"; capacitive_load_unit (1, ff);
+cell (I1) { pin (a) { direction : input; capacitance : 1; } pin (o) { direction : output; function : \"!a\"; } } }";
+
+/// A cell of negative leakage.
+const BAD_LEAKAGE: &str = "library (l) { time_unit : \"1ps\"; capacitive_load_unit (1, ff);
+cell (I1) { cell_leakage_power : -1;
+pin (a) { direction : input; capacitance : 1; } pin (o) { direction : output; function : \"!a\"; } } }";
+
+/// A cell with a table of an unknown template.
+const BAD_TABLE: &str = "library (l) { time_unit : \"1ps\"; capacitive_load_unit (1, ff);
+cell (I1) { cell_leakage_power : 1;
+pin (a) { direction : input; capacitance : 1; }
+pin (o) { direction : output; function : \"!a\"; timing () { related_pin : \"a\";
+cell_rise (t) { values (\"4\"); } cell_fall (scalar) { values (\"4\"); }
+rise_transition (scalar) { values (\"2\"); } fall_transition (scalar) { values (\"2\"); } } } } }";
 
 /// A chain of two inverters.
 const CHAIN: &str =
@@ -126,11 +166,7 @@ fn successes() -> [Row; 3] {
         Row {
             sizes: CHAIN_SIZES,
             report: "gate-sizing-report 1\nleakage 0.000002\n",
-            ..done(
-                "library (r) { cell (I2) { cell_leakage_power : 0.0000005 ; } }",
-                CHAIN,
-                "written 2\n",
-            )
+            ..done(LITTLE, CHAIN, "written 2\n")
         },
     ]
 }
@@ -160,34 +196,35 @@ fn refusals_of_library_texts() -> [Row; 3] {
     ]
 }
 
-fn refusals_of_designs() -> [Row; 6] {
+fn refusals_of_libraries() -> [Row; 8] {
     [
         refused("cells (l) { }", "", "bad library missing\n"),
         refused(
-            "library (l) { leakage_power_unit : \"1 uW\" ; }",
+            "library (r) { cell (I2) { cell_leakage_power : 0.0000005 ; } }",
+            CHAIN,
+            "bad library nounit\n",
+        ),
+        refused(
+            "library (l) { time_unit : \"2ps\"; capacitive_load_unit (1, ff); }",
             "",
             "bad library badunit\n",
         ),
         refused(
-            "library (l) { cell (a) { cell_leakage_power : 1 ; } cell (a) { } }",
-            "",
-            "bad library twocells\n",
-        ),
-        refused(
-            "library (l) { cell (a) { cell_leakage_power (1) ; } }",
-            "",
-            "bad library missing\n",
-        ),
-        refused(
-            "library (l) { cell (a) { cell_leakage_power : -1 ; } }",
+            "library (l) { time_unit : \"1ps\"; capacitive_load_unit (1, ff); default_max_transition : -1; }",
             "",
             "bad library badnumber\n",
         ),
-        refused(
-            "library (l) { cell (I1) { cell_leakage_power : 1 ; } }",
-            CHAIN,
-            "bad design unknowncell\n",
-        ),
+        refused(TWO_CELLS, "", "bad library twocells\n"),
+        refused(NO_LEAKAGE, "", "bad library missing\n"),
+        refused(BAD_LEAKAGE, "", "bad library badnumber\n"),
+        refused(BAD_TABLE, "", "bad library badtable\n"),
+    ]
+}
+
+fn refusals_of_designs() -> [Row; 2] {
+    [
+        refused(NO_CELLS, CHAIN, "bad design unknowncell\n"),
+        refused(SMALL_CELL, CHAIN, "bad design unknowncell\n"),
     ]
 }
 
@@ -218,6 +255,9 @@ fn each_refusal(rt: HostRuntime) -> Result<(), Fail> {
         assert!(rt; ends_so(rt.alloc(), row)?, "{}", row.said);
     }
     for row in refusals_of_library_texts() {
+        assert!(rt; ends_so(rt.alloc(), row)?, "{}", row.said);
+    }
+    for row in refusals_of_libraries() {
         assert!(rt; ends_so(rt.alloc(), row)?, "{}", row.said);
     }
     for row in refusals_of_designs() {
@@ -258,7 +298,9 @@ fn statuses_byte_by_byte(rt: HostRuntime) -> Result<(), Fail> {
     );
     let library = status_of(alloc, "l (l) {}", CHAIN)?;
     assert!(rt; matches!(library, Status::BadLibrary(LibErr::Missing { .. })));
-    let design = status_of(alloc, "library (l) {}", CHAIN)?;
+    let unit = status_of(alloc, "library (l) {}", CHAIN)?;
+    assert!(rt; matches!(unit, Status::BadLibrary(LibErr::NoUnit)));
+    let design = status_of(alloc, NO_CELLS, CHAIN)?;
     assert!(rt; is_unknown_cell_of(&design, b"g1"));
     Ok(())
 }
@@ -386,7 +428,10 @@ fn other_words(rt: HostRuntime) -> Result<(), Fail> {
 
 /// A library whose groups are so many deep, one more than `inner`.
 fn nested(alloc: Global, inner: u32) -> Result<Vec<u8>, AllocError> {
-    let mut text = Vec::from_slice(alloc, b"library(l){")?;
+    let mut text = Vec::from_slice(
+        alloc,
+        b"library(l){time_unit:\"1ps\";capacitive_load_unit(1,ff);",
+    )?;
     for _ in 0..inner {
         text.extend_from_slice(b"g(){")?;
     }
@@ -419,7 +464,7 @@ fn a_library_of_too_deep_groups(rt: HostRuntime) -> Result<(), Fail> {
             alloc,
             more.as_slice(),
             EMPTY.as_bytes(),
-            "bad library toodeep at 260\n"
+            "bad library toodeep at 271\n"
         )?
     );
     Ok(())

@@ -1,30 +1,41 @@
-use Rattle.std.proofs.Common.{[], ap, ◌∙◌}
-use Rattle.gs_lib.specs.Cells.{cells_of}
-use Rattle.gs_lib.specs.Reading.{with_cells}
-use Rattle.gs_lib.proofs.Items.{all_taken, item_refused, item_taken, rest_rows}
+use Rattle.std.proofs.Common.{◌≡◌, ◌∙◌, ◌++◌, [], ap, sym, map}
+use Rattle.gs_design.specs.Cells.{cell_name}
+use Rattle.gs_lib.specs.Draft.{cell_lists, cell_of}
+use Rattle.gs_lib.specs.Library.{drafts_fault, drafts_in}
+use Rattle.gs_lib.proofs.Reading.{all_cells, all_faults, next_cells, next_fault, next_refusal}
 use Rattle.gs_lib.proofs.read.read_cells.Goals as goal
 
-pub returns-in-Err-clause-value : goal.returns-in-Err-clause-value
-returns-in-Err-clause-value c =
-    item_refused c.as_slice-item-items.result.now c.loop-item.builder.rows.items c.loop-item.item-index c.item-item.result c.item-item.result c.in-Err.error
-    (with_cells [] (cells_of c.args.root.now)) c.loop-item-test.true c.item-item.is c.in-Err.ensures.err c.loop-item.invariant.so_far
+pub returns-in-Err-clause-fault : goal.returns-in-Err-clause-fault
+returns-in-Err-clause-fault c =
+    next_refusal c.args.lib.now c.args.items.now c.loop-item.item-index c.item-item.result c.item-item.result c.loop-item-test.true c.item-item.is
+    (map cell_name c.loop-item.builder.cells.items) (drafts_fault [] (drafts_in c.args.lib.now c.args.items.now)) c.in-Err.error c.in-Err.ensures.fault c.loop-item.invariant.fault
 
 pub loop-item-preserved : goal.loop-item-preserved
 loop-item-preserved c =
     record {
-      indexed = c.in-Ok.ensures.indexed;
-      so_far = item_taken c.as_slice-item-items.result.now c.loop-item.builder.rows.items c.take_item.new.self.rows.items c.loop-item.item-index
-          c.item-item.result c.item-item.result (with_cells [] (cells_of c.args.root.now)) c.loop-item-test.true c.item-item.is c.in-Ok.ensures.ok c.loop-item.invariant.so_far;
+      fault = next_fault c.args.lib.now c.args.items.now c.loop-item.item-index c.item-item.result c.item-item.result c.loop-item-test.true c.item-item.is
+          (map cell_name c.loop-item.builder.cells.items) (map cell_name c.take_item.new.self.cells.items) (drafts_fault [] (drafts_in c.args.lib.now c.args.items.now))
+          c.in-Ok.ensures.fault c.in-Ok.ensures.names c.loop-item.invariant.fault;
+      cells = next_cells c.args.lib.now c.args.items.now c.loop-item.item-index c.item-item.result c.item-item.result c.loop-item-test.true c.item-item.is
+          (map cell_lists c.loop-item.builder.cells.items) (map cell_lists c.take_item.new.self.cells.items) (map cell_of (drafts_in c.args.lib.now c.args.items.now))
+          c.in-Ok.ensures.cells c.loop-item.invariant.cells;
+      kept = c.in-Ok.ensures.kept;
     }
 
 pub loop-item-init : goal.loop-item-init
 loop-item-init c =
     record {
-      indexed = c.new-builder.ensures.indexed;
-      so_far = ap (λ rows. rest_rows c.as_slice-item-items.result.now rows 0) c.new-builder.ensures.rows ∙ ap (λ is. rest_rows is [] 0) c.as_slice-item-items.ensures;
+      fault = ap (λ cs. drafts_fault (map cell_name cs) (drafts_in c.args.lib.now c.args.items.now)) c.new-builder.ensures.cells;
+      cells = ap (λ cs. map cell_lists cs ++ map cell_of (drafts_in c.args.lib.now c.args.items.now)) c.new-builder.ensures.cells;
+      kept = c.new-builder.ensures.kept;
     }
 
-pub returns-clause-value : goal.returns-clause-value
-returns-clause-value c =
-    all_taken c.as_slice-item-items.result.now c.loop-item.builder.rows.items c.loop-item.item-index (with_cells [] (cells_of c.args.root.now))
-    c.loop-item-test.false c.loop-item.invariant.so_far
+pub returns-clause-fault : goal.returns-clause-fault
+returns-clause-fault c =
+    sym c.loop-item.invariant.fault
+    ∙ all_faults c.args.lib.now c.args.items.now c.loop-item.item-index (map cell_name c.loop-item.builder.cells.items) c.loop-item-test.false
+
+pub returns-clause-cells : goal.returns-clause-cells
+returns-clause-cells c =
+    all_cells c.args.lib.now c.args.items.now c.loop-item.item-index (map cell_lists c.loop-item.builder.cells.items) (map cell_of (drafts_in c.args.lib.now c.args.items.now))
+    c.loop-item-test.false c.loop-item.invariant.cells

@@ -1,5 +1,6 @@
-use Rattle.std.proofs.Common.{◌≡◌, ◌∙◌, sym, ap, take_all, get_or, to_z, w64, Some, None}
-use Rattle.gs_lib.specs.Table.{leakage_of}
+use Rattle.gs_lib.specs.Draft.{cell_lists}
+use Rattle.std.proofs.Common.{map, ◌≡◌, ◌∙◌, sym, ap, take_all, get_or, to_z, w64, Some, None}
+use Rattle.gs_report.specs.Leakage.{leakage_of}
 use Rattle.gs_report.specs.Sum.{is_known, total_of}
 use Rattle.gs_report.proofs.Known.{more, stop, all}
 use Rattle.gs_report.proofs.Totals.{is_summed, low_after, high_after, known_here, unknown_here}
@@ -7,16 +8,16 @@ use Rattle.gs_report.proofs.sum.add_leakages.Goals as goal
 
 pub returns-in-None : goal.returns-in-None
 returns-in-None c =
-    let cell : leakage_of c.args.leaks.now.cells (get_or c.args.insts.now c.loop-k.k c.index-insts-k.result).cell ≡ None =
-    ap (λ i. leakage_of c.args.leaks.now.cells i.cell) (sym c.index-insts-k.is) ∙ sym c.leakage.ensures.value ∙ c.in-None.is in
-    let failed = unknown_here c.args.leaks.now.cells c.args.insts.now c.loop-k.k c.index-insts-k.result c.loop-k-test.true c.requires cell in (
-      stop (is_known c.args.leaks.now.cells) c.args.insts.now c.loop-k.k c.index-insts-k.result c.loop-k.invariant.3 c.loop-k-test.true failed,
+    let cell : leakage_of (map cell_lists c.args.library.now.cells) (get_or c.args.insts.now c.loop-k.k c.index-insts-k.result).cell ≡ None =
+    ap (λ i. leakage_of (map cell_lists c.args.library.now.cells) i.cell) (sym c.index-insts-k.is) ∙ sym c.leakage.ensures.value ∙ c.in-None.is in
+    let failed = unknown_here (map cell_lists c.args.library.now.cells) c.args.insts.now c.loop-k.k c.index-insts-k.result c.loop-k-test.true c.requires cell in (
+      stop (is_known (map cell_lists c.args.library.now.cells)) c.args.insts.now c.loop-k.k c.index-insts-k.result c.loop-k.invariant.3 c.loop-k-test.true failed,
       c.loop-k-test.true,
     )
 
 pub loop-k-preserved : goal.loop-k-preserved
 loop-k-preserved c =
-    let rows = c.args.leaks.now.cells in
+    let rows = (map cell_lists c.args.library.now.cells) in
     let insts = c.args.insts.now in
     let k = c.loop-k.k in
     let d = c.index-insts-k.result in
@@ -34,6 +35,6 @@ loop-k-preserved c =
 
 pub returns : goal.returns
 returns c = (
-  all (is_known c.args.leaks.now.cells) c.args.insts.now c.loop-k.k c.loop-k.invariant.3 c.loop-k-test.false,
-  c.loop-k.invariant.0 ∙ ap (total_of c.args.leaks.now.cells) (take_all c.loop-k.k c.args.insts.now c.loop-k-test.false),
+  all (is_known (map cell_lists c.args.library.now.cells)) c.args.insts.now c.loop-k.k c.loop-k.invariant.3 c.loop-k-test.false,
+  c.loop-k.invariant.0 ∙ ap (total_of (map cell_lists c.args.library.now.cells)) (take_all c.loop-k.k c.args.insts.now c.loop-k-test.false),
 )

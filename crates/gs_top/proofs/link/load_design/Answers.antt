@@ -10,6 +10,6 @@ returns-in-Err-load_netlist-clause-work g c = goes_on c.in-Ok.ensures (stops c.i
 
 pub returns-clause-work : goal.returns-clause-work
 returns-clause-work g c =
-    let t = c.in-Ok.leaks in
+    let l = c.in-Ok.library in
     let n = c.in-Ok-load_netlist.netlist in
-    goes_on c.in-Ok.ensures (goes_on c.in-Ok-load_netlist.ensures (settled (IsLinked t n) (LinkCause t n) c.link.ensures.settles))
+    goes_on c.in-Ok.ensures (goes_on c.in-Ok-load_netlist.ensures (settled (IsLinked l n) (LinkCause l n) c.link.ensures.settles))
