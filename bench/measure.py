@@ -59,11 +59,25 @@ def bound(text, is_held):
     return is_held
 
 
+def judge_reader(program, label, source, wanted):
+    """Runs a program that reads a text, prints a line, and judges the bounds of a reader. Answers the seconds, and whether they hold."""
+    run = best_of(3, [program, source])
+    size = source.stat().st_size
+    print(line(label, size, run), flush=True)
+    if run.exit != 0 or run.said != wanted:
+        sys.exit(f"unexpected end: exit {run.exit}, {run.said}")
+    held = True
+    if size >= 1_000_000:
+        held &= bound("at least 20 MB/s", size / 1e6 / run.seconds >= 20)
+        held &= bound("at most 40 bytes of memory a byte", run.peak <= 40 * size)
+    return run.seconds, held
+
+
 @contextmanager
 def small_program(name, crate, source):
-    """A proved program of one source file over a crate of the repository, built in a temporary folder."""
+    """A proved program of one source file over a crate of the repository, or several with blanks between, built in a temporary folder."""
     listed = dict(text.split(":", 1) for text in (REPOSITORY / "crates.txt").read_text().splitlines() if text[:1].isalpha())
-    needed, left = {}, [crate]
+    needed, left = {}, crate.split()
     while left:
         low = left.pop()
         if low in listed:
@@ -72,7 +86,8 @@ def small_program(name, crate, source):
     with tempfile.TemporaryDirectory() as folder:
         crates = Path(folder) / "crates"
         for low in needed:
-            shutil.copytree(REPOSITORY / "crates" / low, crates / low, ignore=shutil.ignore_patterns("out", "must-fail"))
+            # What is proved of them already comes along.
+            shutil.copytree(REPOSITORY / "crates" / low, crates / low, ignore=shutil.ignore_patterns("must-fail"))
         (crates / name / "src").mkdir(parents=True)
         (crates / name / "src" / "main.rt").write_text(source)
         lines = [f"{low}:{above}" for low, above in needed.items()] + [f"{name}: {crate} anyhow"]

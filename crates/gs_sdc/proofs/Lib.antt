@@ -1,0 +1,10 @@
+pub mod Answering
+pub mod Commands
+pub mod Fitting
+pub mod Lists
+pub mod Loop
+pub mod PartLaws
+pub mod PartReads
+pub mod PortLaws
+pub mod Spelling
+pub mod Steps

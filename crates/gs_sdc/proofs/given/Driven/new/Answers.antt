@@ -1,0 +1,5 @@
+use Rattle.gs_sdc.proofs.PortLaws.{driven_none}
+use Rattle.gs_sdc.proofs.given.Driven.new.Goals as goal
+
+pub returns-clause-kept : goal.returns-clause-kept
+returns-clause-kept c = driven_none _ c.in_ok-ports.ensures.buckets c.in_ok-ports.ensures.empty c.new-2.ensures.items

@@ -1,0 +1,41 @@
+use Rattle.std.proofs.Common.{◌≡◌, ◌∙◌, ℕ, List, [], ◌∷◌, ◌++◌, Bool, false, true, map, sym, ap}
+use Rattle.gs_sdc.specs.Reader.{is_named}
+use Rattle.gs_sdc.specs.Reads.{names_of}
+use Rattle.gs_sdc.specs.Sdc.{repeats}
+use Rattle.gs_sdc.specs.Terms.{value_port}
+use Rattle.gs_sdc.specs.declared.constraints.PortValue.{PortValue}
+use Rattle.gs_sdc.proofs.PortLaws.{again_end, again_stop, stops_again, valued_end, valued_turn, values_again}
+use Rattle.gs_sdc.proofs.given.Values.give.Goals as goal
+
+pub loop-piece-preserved : goal.loop-piece-preserved
+loop-piece-preserved c =
+    let bytes = c.args.bytes.now in
+    let ps = c.args.names.now in
+    let i = c.loop-piece.piece-index in
+    let amount = c.args.amount in
+    let old = c.loop-piece.self.list.items in
+    let new = c.give_one.new.self.list.items in
+    let more = c.in-Ok.ensures.list ∙ ap (λ (x : List ℕ). old ++ record { port = x; value = amount } ∷ []) c.text_of.ensures in
+    let fresh = ap (λ (x : List ℕ). is_named x (map value_port old)) (sym c.text_of.ensures) ∙ c.in-Ok.ensures.fresh in
+    record {
+      kept = c.in-Ok.ensures.kept;
+      list = valued_turn bytes ps i _ amount c.args.self.now.list.items old new c.loop-piece-test.true c.loop-piece.invariant.list more;
+      again = values_again bytes ps i _ amount old new _ c.loop-piece-test.true more fresh c.loop-piece.invariant.again;
+    }
+
+pub returns-in-Err-clause-err : goal.returns-in-Err-clause-err
+returns-in-Err-clause-err c =
+    let old = c.loop-piece.self.list.items in
+    stops_again c.in-Err.stop _ _
+    (λ there. sym c.loop-piece.invariant.again
+    ∙ again_stop (map value_port old) c.args.bytes.now c.args.names.now c.loop-piece.piece-index _ c.loop-piece-test.true
+    (ap (λ (x : List ℕ). is_named x (map value_port old)) (sym c.text_of.ensures) ∙ there))
+    c.in-Err.ensures.err
+
+pub returns-clause-list : goal.returns-clause-list
+returns-clause-list c =
+    valued_end c.args.bytes.now c.args.names.now c.loop-piece.piece-index c.args.amount c.args.self.now.list.items c.loop-piece.self.list.items c.loop-piece-test.false c.loop-piece.invariant.list
+
+pub returns-clause-fresh : goal.returns-clause-fresh
+returns-clause-fresh c =
+    sym c.loop-piece.invariant.again ∙ again_end (map value_port c.loop-piece.self.list.items) c.args.bytes.now c.args.names.now c.loop-piece.piece-index c.loop-piece-test.false

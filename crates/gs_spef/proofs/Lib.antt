@@ -1,0 +1,4 @@
+pub mod Loop
+pub mod Plain
+pub mod Reading
+pub mod Steps
