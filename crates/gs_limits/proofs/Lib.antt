@@ -1,0 +1,3 @@
+pub mod LeakLaws
+pub mod KindLaws
+pub mod OutcomeLaws

@@ -1,0 +1,5 @@
+pub mod Lines
+pub mod Sizes
+pub mod Refusal
+pub mod Written
+pub mod Reader

@@ -1,0 +1,7 @@
+pub mod CellLaws
+pub mod EdgeLaws
+pub mod EvalLaws
+pub mod FrameLaws
+pub mod LateLaws
+pub mod PassLaws
+pub mod SinkLaws

@@ -1,0 +1,4 @@
+pub mod Calm
+pub mod Done
+pub mod Late
+pub mod Same
