@@ -105,6 +105,10 @@ impl Reader {
         ensures err { IfErr result (λ e. e ≡ StepErr.Full) }
     {
         let value = Name::copy_of(alloc, text)?;
+        if self.values.is_empty() {
+            // most lists have one value, and a tree has many of them
+            self.values.reserve_exact(1)?;
+        }
         self.values.push(value)?;
         self.place = Place::Arg;
         Ok(())
@@ -201,7 +205,8 @@ impl Reader {
         }
         let name = self.take_name(alloc);
         let args = self.take_values(alloc);
-        let items = Items::new(alloc);
+        // most groups are tables, of one item
+        let items = Items::from_vec(Vec::with_capacity(alloc, 1)?);
         self.groups.push(Node { name, args, items })?;
         self.place = Place::Body;
         Ok(())

@@ -1,7 +1,7 @@
 //! What a piece of a Liberty text is to the form.
 #![tactic(auto)]
 
-ghost use Rattle.std.specs.Prelude.{◌≡◌};
+ghost use Rattle.std.specs.Prelude.{◌≡◌, [], ◌∷◌};
 ghost use Rattle.gs_libtree.specs.Token.{class_of, mark_class};
 
 use gs_text::Kind;
@@ -25,26 +25,29 @@ pub enum Class {
     Other,
 }
 
+/// What a mark of one byte is to the form.
+fn byte_class(byte: u8) -> Class
+    ensures { result ≡ mark_class (byte ∷ []) }
+{
+    match byte {
+        b'(' => Class::Opens,
+        b')' => Class::Closes,
+        b'{' => Class::Enters,
+        b'}' => Class::Leaves,
+        b',' => Class::Comma,
+        b';' => Class::Semicolon,
+        b':' => Class::Colon,
+        _ => Class::Other,
+    }
+}
+
 /// What a mark is to the form.
 fn mark_class(text: &[u8]) -> Class
     ensures { result ≡ mark_class text.now }
 {
-    if text == b"(".as_slice() {
-        Class::Opens
-    } else if text == b")".as_slice() {
-        Class::Closes
-    } else if text == b"{".as_slice() {
-        Class::Enters
-    } else if text == b"}".as_slice() {
-        Class::Leaves
-    } else if text == b",".as_slice() {
-        Class::Comma
-    } else if text == b";".as_slice() {
-        Class::Semicolon
-    } else if text == b":".as_slice() {
-        Class::Colon
-    } else {
-        Class::Other
+    match text {
+        [byte] => byte_class(*byte),
+        _ => Class::Other,
     }
 }
 

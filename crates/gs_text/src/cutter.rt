@@ -205,6 +205,8 @@ fn past_comment(bytes: &[u8], place: Place, to: usize) -> Place
 
 /// What comes next from the place, where `place` is the start or a place that this call answered for the same text. It
 /// takes no memory.
+// inlined, so that the loop of each reader knows its style and no place is copied
+#[inline(always)]
 pub fn next_piece(style: Style, bytes: &[u8], place: Place) -> Next
     requires small { length bytes.now ≤ max_text }
     requires place { IsPlace bytes.now place }

@@ -1,6 +1,6 @@
 -- A name is found by its key, in its bucket.
 
-use Rattle.std.proofs.Common.{◌≡◌, ◌≢◌, ℕ, ◌<◌, ◌%◌, List, length, get_or, set, refl, sym, ap, ◌∙◌, Bool, true, false, ◌&&◌, cond, Option, None, Some, eqb, arith}
+use Rattle.std.proofs.Common.{◌≡◌, ◌≢◌, ℕ, ◌<◌, ◌-◌, List, length, get_or, set, refl, sym, ap, ◌∙◌, Bool, true, false, ◌&&◌, cond, Option, None, Some, eqb, arith}
 use Rattle.std.specs.BTreeMap.{BTreeMap, IsEmpty, get, get_by, is_at}
 use Rattle.std.specs.Cmp.{tied_then}
 use Rattle.std.specs.Cmp.Lexicographic.{slice_cmp}
@@ -12,8 +12,9 @@ use Rattle.std.proofs.lemmas.Bool.Decides.{nat_tests}
 use Rattle.std.proofs.lemmas.List.{get_or-set_other, get_or-set_same, length-set}
 use Rattle.std.proofs.lemmas.List.Elements.{All-get_or}
 use Rattle.std.proofs.lemmas.Map.Text.{is_eq-slice_cmp}
+use Rattle.std.proofs.lemmas.Nat.{and_le_r}
 use Rattle.std.proofs.lemmas.Option.{get_or_from_slice_get, slice_get-get_or, slice_get_read, slice_get_within}
-use Rattle.gs_verilog.specs.Names.{HasBuckets, Key, find, find_in, hash_of, key_cmp, key_of}
+use Rattle.gs_verilog.specs.Names.{HasBuckets, Key, find, find_in, front_of, hash_of, key_cmp, key_of, place_in}
 use Rattle.gs_verilog.specs.declared.names.NameMap.{NameMap}
 use Rattle.gs_verilog.proofs.Indexes.{is_eq-nat_cmp}
 use Rattle.gs_verilog.proofs.Numbers.{same_bytes}
@@ -44,21 +45,21 @@ by_key b k name h t =
     ∙ ap (λ (x : List ℕ). get_by (λ (y : Key). ordering_then (nat_cmp (hash_of name) y.0) (slice_cmp nat_cmp x y.1.now)) b) t
 
 -- a place of a bucket
-below : (h n : ℕ) → 0 < n → h % n < n
-below h n some = omega (arith, some)
+below : (name : List ℕ) (n : ℕ) → 0 < n → place_in n name < n
+unfolding place_in
+below name n some = omega (arith, some, and_le_r (hash_of (front_of name)) (n - 1))
 
 -- the bucket at a name's place is the one in which it is found
-in_bucket : (m : NameMap) (name : List ℕ) (p : ℕ) (b : BTreeMap Key ℕ) → HasBuckets m → p ≡ hash_of name % length m.buckets.items
+in_bucket : (m : NameMap) (name : List ℕ) (p : ℕ) (b : BTreeMap Key ℕ) → HasBuckets m → p ≡ place_in (length m.buckets.items) name
     → b ≡ get_or m.buckets.items p b → find m name ≡ get key_cmp b (key_of name)
 in_bucket m name p b some at here =
     let n = length m.buckets.items in
-    let i = hash_of name % n in
-    ap (λ o. find_in o (key_of name)) (slice_get_read m.buckets.items n i b refl (below (hash_of name) n some) (here ∙ ap (λ j. get_or m.buckets.items j b) at))
+    let i = place_in n name in
+    ap (λ o. find_in o (key_of name)) (slice_get_read m.buckets.items n i b refl (below name n some) (here ∙ ap (λ j. get_or m.buckets.items j b) at))
 
 pub found_by_key : (m : NameMap) (k : Key) (name : List ℕ) (p : ℕ) (b : BTreeMap Key ℕ) → HasBuckets m → k.0 ≡ hash_of name → k.1.now ≡ name
-    → p ≡ k.0 % length m.buckets.items → b ≡ get_or m.buckets.items p b → get_by (key_cmp k) b ≡ find m name
-found_by_key m k name p b some h t at here =
-    by_key b k name h t ∙ sym (in_bucket m name p b some (at ∙ ap (λ x. x % length m.buckets.items) h) here)
+    → p ≡ place_in (length m.buckets.items) name → b ≡ get_or m.buckets.items p b → get_by (key_cmp k) b ≡ find m name
+found_by_key m k name p b some h t at here = by_key b k name h t ∙ sym (in_bucket m name p b some at here)
 
 -- what is found in a bucket after an insertion
 after_in : (b c : BTreeMap Key ℕ) (k : Key) (name : List ℕ) (w : Option ℕ) → k.0 ≡ hash_of name → k.1.now ≡ name
@@ -72,10 +73,10 @@ after_in b c k name w h t updates q =
     ∙ ap (λ r. cond r w f) (same_key name q)
 
 -- names of different places differ
-places_differ : (a q : List ℕ) (n : ℕ) (r : Bool) → eqb (hash_of q % n) (hash_of a % n) ≡ false → bytes_eq a q ≡ r → r ≡ false
+places_differ : (a q : List ℕ) (n : ℕ) (r : Bool) → eqb (place_in n q) (place_in n a) ≡ false → bytes_eq a q ≡ r → r ≡ false
 places_differ a q n false e h = refl
 places_differ a q n true e h =
-    let same : hash_of a % n ≡ hash_of q % n = ap (λ x. hash_of x % n) (same_bytes a q h) in
+    let same : place_in n a ≡ place_in n q = ap (place_in n) (same_bytes a q h) in
     absurd (grind (arith, nat_tests, same, e))
 
 -- a name at a place, after the bucket at a place has changed
@@ -93,30 +94,29 @@ at_change xs p i b c k false within here e =
 
 by_place : (m : NameMap) (k : Key) (name : List ℕ) (w : Option ℕ) (p : ℕ) (b c : BTreeMap Key ℕ) → HasBuckets m → k.0 ≡ hash_of name → k.1.now ≡ name
     → b ≡ get_or m.buckets.items p b → ((q : Key) → get key_cmp c q ≡ cond (is_eq (key_cmp k q)) w (get key_cmp b q))
-    → (q : List ℕ) → p ≡ hash_of name % length m.buckets.items → (r : Bool) → eqb (hash_of q % length m.buckets.items) p ≡ r
+    → (q : List ℕ) → p ≡ place_in (length m.buckets.items) name → (r : Bool) → eqb (place_in (length m.buckets.items) q) p ≡ r
     → cond r (get key_cmp c (key_of q)) (find m q) ≡ cond (bytes_eq name q) w (find m q)
 by_place m k name w p b c some h t here updates q place true e =
-    let same : p ≡ hash_of q % length m.buckets.items = grind (arith, nat_tests, e) in
+    let same : p ≡ place_in (length m.buckets.items) q = grind (arith, nat_tests, e) in
     after_in b c k name w h t updates q ∙ ap (λ f. cond (bytes_eq name q) w f) (sym (in_bucket m q p b some same here))
 by_place m k name w p b c some h t here updates q place false e =
     let size = length m.buckets.items in
-    let differ : bytes_eq name q ≡ false = places_differ name q size (bytes_eq name q) (ap (λ j. eqb (hash_of q % size) j) (sym place) ∙ e) refl in
+    let differ : bytes_eq name q ≡ false = places_differ name q size (bytes_eq name q) (ap (λ j. eqb (place_in size q) j) (sym place) ∙ e) refl in
     rw differ refl
 
 -- what is found after an insertion into the bucket at the name's place
 pub found_after : (m n : NameMap) (k : Key) (name : List ℕ) (w : Option ℕ) (p : ℕ) (b c : BTreeMap Key ℕ) → HasBuckets m → k.0 ≡ hash_of name → k.1.now ≡ name
-    → p ≡ k.0 % length m.buckets.items → b ≡ get_or m.buckets.items p b → n.buckets.items ≡ set m.buckets.items p c
+    → p ≡ place_in (length m.buckets.items) name → b ≡ get_or m.buckets.items p b → n.buckets.items ≡ set m.buckets.items p c
     → ((q : Key) → get key_cmp c q ≡ cond (is_eq (key_cmp k q)) w (get key_cmp b q))
     → (q : List ℕ) → find n q ≡ update bytes_eq (find m) name w q
 found_after m n k name w p b c some h t at here changed updates q =
     let xs = m.buckets.items in
     let size = length xs in
-    let i = hash_of q % size in
-    let place : p ≡ hash_of name % size = at ∙ ap (λ x. x % size) h in
-    ap (λ ys. find_in (slice_get ys (hash_of q % length ys)) (key_of q)) changed
-    ∙ ap (λ l. find_in (slice_get (set xs p c) (hash_of q % l)) (key_of q)) (length-set xs p c)
-    ∙ at_change xs p i b c (key_of q) (eqb i p) (below (hash_of q) size some) here refl
-    ∙ by_place m k name w p b c some h t here updates q place (eqb i p) refl
+    let i = place_in size q in
+    ap (λ ys. find_in (slice_get ys (place_in (length ys) q)) (key_of q)) changed
+    ∙ ap (λ l. find_in (slice_get (set xs p c) (place_in l q)) (key_of q)) (length-set xs p c)
+    ∙ at_change xs p i b c (key_of q) (eqb i p) (below q size some) here refl
+    ∙ by_place m k name w p b c some h t here updates q at (eqb i p) refl
 
 -- nothing is found in empty buckets
 none_in : (xs : List (BTreeMap Key ℕ)) (i : ℕ) (k : Key) (o : Option (BTreeMap Key ℕ)) → slice_get xs i ≡ o → All IsEmpty xs → find_in o k ≡ None
@@ -126,4 +126,4 @@ none_in xs i k (Some b) e empty =
     ap (lookup (is_at (key_cmp k))) (ap (λ (c : BTreeMap Key ℕ). c.entries) (sym (get_or_from_slice_get xs i b b e)) ∙ nothing)
 
 pub none_found : (m : NameMap) → All IsEmpty m.buckets.items → (q : List ℕ) → find m q ≡ None
-none_found m empty q = let i = hash_of q % length m.buckets.items in none_in m.buckets.items i (key_of q) (slice_get m.buckets.items i) refl empty
+none_found m empty q = let i = place_in (length m.buckets.items) q in none_in m.buckets.items i (key_of q) (slice_get m.buckets.items i) refl empty

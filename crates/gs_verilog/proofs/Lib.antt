@@ -4,6 +4,7 @@ pub mod Complete
 pub mod Finish
 pub mod Fits
 pub mod Folds
+pub mod Hashes
 pub mod Indexes
 pub mod Keys
 pub mod Laws
@@ -11,4 +12,5 @@ pub mod Left
 pub mod Numbers
 pub mod Reading
 pub mod Rules
+pub mod Solid
 pub mod Sound

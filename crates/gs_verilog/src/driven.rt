@@ -45,8 +45,9 @@ impl<'a> Machine<'a> for Reader<'a> {
     ghost Keeps = { λ r. IsIndexed r.built };
 
     fn start(alloc: Global, len: usize) -> Result<Reader<'a>, AllocError> {
-        // A bucket for each 768 bytes: about twelve instances and as many new nets, which is one node of an ordered map.
-        Reader::new(alloc, len / 768 + 1)
+        // A bucket for each 256 to 512 bytes, in which stand some four to eight instances, and as many new nets: less than one node of an ordered
+        // map. Their number is a power of two, so that each has some of the hashes.
+        Reader::new(alloc, (len / 512 + 1).next_power_of_two())
     }
 
     fn take(&mut self, alloc: Global, kind: Kind, text: &'a [u8], _line: u32) -> Result<(), Stop> {

@@ -37,7 +37,7 @@ mod reader;
 mod tests;
 
 pub use error::VerilogErr;
-pub use law::each_text_is_decided;
+pub use law::{each_netlist_is_kept, each_text_is_decided};
 pub use netlist::Netlist;
 pub use parts::{Link, Links, Port, Ports, RawInst, RawInsts};
 pub use read::read_netlist;

@@ -1,7 +1,7 @@
 //! The form as a table: the place after each token.
 #![tactic(auto)]
 
-ghost use Rattle.std.specs.Prelude.{◌≡◌};
+ghost use Rattle.std.specs.Prelude.{◌≡◌, [], ◌∷◌};
 ghost use Rattle.gs_verilog.specs.Machine.{class_of, next};
 ghost use Rattle.gs_verilog.specs.Token.{begins_name};
 
@@ -110,22 +110,27 @@ fn class_of_word(text: &[u8]) -> Class
     }
 }
 
+/// What a mark of one byte is to the form.
+fn class_of_byte(byte: u8) -> Class
+    ensures { result ≡ class_of Kind.Mark (byte ∷ []) }
+{
+    match byte {
+        b'(' => Class::Open,
+        b')' => Class::Close,
+        b',' => Class::Comma,
+        b'.' => Class::Dot,
+        b';' => Class::Semicolon,
+        _ => Class::Other,
+    }
+}
+
 /// What a mark is to the form.
 fn class_of_mark(text: &[u8]) -> Class
     ensures { result ≡ class_of Kind.Mark text.now }
 {
-    if text == b"(".as_slice() {
-        Class::Open
-    } else if text == b")".as_slice() {
-        Class::Close
-    } else if text == b",".as_slice() {
-        Class::Comma
-    } else if text == b".".as_slice() {
-        Class::Dot
-    } else if text == b";".as_slice() {
-        Class::Semicolon
-    } else {
-        Class::Other
+    match text {
+        [byte] => class_of_byte(*byte),
+        _ => Class::Other,
     }
 }
 

@@ -1,6 +1,7 @@
-use Rattle.std.proofs.Common.{◌∙◌, refl, ap, arith, length-set, Some, Option, ℕ}
+use Rattle.std.proofs.Common.{◌∙◌, refl, ap, arith, length, length-set, Some, Option, ℕ}
 use Rattle.std.specs.Option.{unwrap_or}
 use Rattle.std.specs.Vec.{with_item}
+use Rattle.gs_verilog.proofs.Hashes.{place_by}
 use Rattle.gs_verilog.proofs.Keys.{found_after, found_by_key}
 use Rattle.gs_verilog.proofs.names.NameMap.get_or_insert.Goals as goal
 
@@ -10,13 +11,14 @@ returns c =
     let b = c.index_mut-bucket.result.now in
     let p = c.place-place.result in
     let name = c.args.name.now in
+    let place = place_by name c.hashes_of-front.result.0 (length m.buckets.items) p c.place-place.ensures.place c.hashes_of-front.ensures.front in
     let bucket = c.get_or_insert.new.map in
     record {
       buckets = omega (arith, c.requires, length-set m.buckets.items p bucket);
       number = c.in_ok-found.ensures.number
           ∙ ap (λ (o : Option ℕ). unwrap_or o c.args.number)
-          (found_by_key m (c.hash_of-hash.result, c.args.name) name p b c.requires c.hash_of-hash.ensures refl c.place-place.ensures c.index_mut-bucket.ensures.value);
-      updates = found_after m (record { buckets = with_item m.buckets p bucket }) (c.hash_of-hash.result, c.args.name) name (Some c.in_ok-found.found) p b bucket
-          c.requires c.hash_of-hash.ensures refl c.place-place.ensures c.index_mut-bucket.ensures.value refl c.in_ok-found.ensures.updates;
+          (found_by_key m (c.hashes_of-front.result.1, c.args.name) name p b c.requires c.hashes_of-front.ensures.whole refl place c.index_mut-bucket.ensures.value);
+      updates = found_after m (record { buckets = with_item m.buckets p bucket }) (c.hashes_of-front.result.1, c.args.name) name (Some c.in_ok-found.found) p b bucket
+          c.requires c.hashes_of-front.ensures.whole refl place c.index_mut-bucket.ensures.value refl c.in_ok-found.ensures.updates;
       err = tt;
     }
