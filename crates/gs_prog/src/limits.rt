@@ -12,7 +12,7 @@ const EMPTY: &[u8] = b"module e; endmodule";
 
 /// What a cell of these libraries says after its name: it is an inverter.
 const INVERTER: &[u8] =
-    b") { cell_leakage_power : 1; dont_use : true; pin (a) { direction : input; capacitance : 1; } pin (o) { direction : output; function : \"!a\"; } }";
+    b") { cell_leakage_power : 1; dont_use : true; pin (a) { direction : input; capacitance : 1; } pin (o) { direction : output; function : \"!a\"; timing () { related_pin : \"a\"; timing_sense : negative_unate; cell_rise (scalar) { values (\"4\"); } cell_fall (scalar) { values (\"4\"); } rise_transition (scalar) { values (\"2\"); } fall_transition (scalar) { values (\"2\"); } } } }";
 
 /// A library of so many cells, which are marked, so that none may take the place of another.
 fn many_cells(alloc: Global, count: u32) -> Result<Vec<u8>, AllocError> {
@@ -30,14 +30,17 @@ fn many_cells(alloc: Global, count: u32) -> Result<Vec<u8>, AllocError> {
     Ok(text)
 }
 
-/// A netlist of so many instances of one cell.
+/// A netlist of so many instances of one cell, each with a net of its own.
 fn many_instances(alloc: Global, count: u32) -> Result<Vec<u8>, AllocError> {
-    let mut text = Vec::from_slice(alloc, b"module m;")?;
+    let mut text = Vec::from_slice(alloc, b"module m (x); input x;")?;
     for k in 0..count {
         let mut digits = Buffer::new();
+        let number = digits.format(k).as_bytes();
         text.extend_from_slice(b"c0 i")?;
-        text.extend_from_slice(digits.format(k).as_bytes())?;
-        text.extend_from_slice(b"();")?;
+        text.extend_from_slice(number)?;
+        text.extend_from_slice(b"(.a(x), .o(n")?;
+        text.extend_from_slice(number)?;
+        text.extend_from_slice(b"));")?;
     }
     text.extend_from_slice(b"endmodule")?;
     Ok(text)
@@ -51,6 +54,10 @@ fn size_words(alloc: Global) -> Result<Words, Mem> {
         "n.lib",
         "--verilog",
         "n.v",
+        "--spef",
+        "n.spef",
+        "--sdc",
+        "n.sdc",
         "--sizes",
         "n.sizes",
         "--report",
@@ -66,6 +73,8 @@ fn says(alloc: Global, library: &[u8], netlist: &[u8], line: &str) -> Result<boo
     let mut files = FileList::new(alloc);
     files.put(alloc, b"n.lib", library)?;
     files.put(alloc, b"n.v", netlist)?;
+    files.put(alloc, b"n.spef", b"*C_UNIT 1 FF")?;
+    files.put(alloc, b"n.sdc", b"create_clock -name k -period 1")?;
     let said = Bytes::empty(alloc);
     let mut shelf = NeverFails { files, said };
     let _ = run(&(), alloc, &size_words(alloc)?, &mut shelf);

@@ -7,6 +7,8 @@
 
 #[cfg(test)]
 mod limits;
+#[cfg(test)]
+mod link_tests;
 
 use gs_quantity::Mem;
 use gs_shelf::HostShelf;

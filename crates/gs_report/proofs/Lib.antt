@@ -1,4 +1,4 @@
-pub mod Amounts
-pub mod Known
-pub mod Laws
-pub mod Totals
+pub mod Counts
+pub mod OneNet
+pub mod Placed
+pub mod Texts

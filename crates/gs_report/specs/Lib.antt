@@ -1,3 +1,4 @@
-pub mod Leakage
-pub mod Sum
+pub mod Lines
+pub mod Log
+pub mod Report
 pub mod Text

@@ -1,4 +1,4 @@
--- The text of the report.
+-- The text of a report that says a leakage alone.
 
 use Rattle.std.specs.Prelude.{ℕ, List, [], ◌∷◌, ◌++◌, codes, ℤ}
 use Rattle.gs_quantity.specs.Print.{micro_text}

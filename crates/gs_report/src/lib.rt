@@ -1,22 +1,31 @@
-//! The report of a run: the true leakage of a netlist, and the text that says it.
+//! The report and the log of a design as texts.
 //!
-//! - [`sum_leakage`] adds the leakage of the cells that a netlist's instances name. Its contract says its answer both ways, for every
-//!   netlist and every library (`specs/Sum.antt`): the exact sum in whole millionths (`IsSum`), or the first instance whose
-//!   cell the library lacks, or else that there are too many instances (`HasCause`).
-//! - [`write_leak_report`] makes the report's text (`report_text` in `specs/Text.antt`).
+//! - [`write_report`] writes what sizes of a design leak and every limit that their timing doesn't meet, and of a run how it ended and what
+//!   each worker committed. Its contract says which bytes: `report_text` of `specs/Report.antt`.
+//! - [`write_leak_report`] writes a leakage alone, where nothing is timed: `report_text` of `specs/Text.antt`.
+//! - [`write_log`] writes the entries of a run in order: `log_text` of `specs/Log.antt`.
 //!
-//! The sum is one pass over the instances, each of which is looked up among the library's cells, and takes no memory. The text
-//! takes memory for itself alone.
+//! Each definition there is one line of a format, as the words of that line (`specs/Lines.antt`). What is written is computed by
+//! `gs_limits`: this crate names and prints it. Times are in ps and loads in fF, the leakage is in the library's unit, each with six places.
 //!
-//! A further line of the report is a part of `report_text`, and of `write_leak_report`.
+//! Writing takes time in proportion to the text, the limits of the design and the entries of the run, and memory for the text, the
+//! violations and one count for each worker.
+//!
+//! To add a line, add its definition, write the function that appends it, and call that in `src/report.rt` or `src/writing.rt`.
 #![tactic(auto)]
 
-mod error;
-mod sum;
+mod leakage;
+mod names;
+mod report;
+mod run;
 #[cfg(test)]
 mod tests;
-mod text;
+mod unmet;
+mod words;
+mod workers;
+mod writing;
 
-pub use error::SumErr;
-pub use sum::sum_leakage;
-pub use text::write_leak_report;
+pub use leakage::write_leak_report;
+pub use report::write_report;
+pub use run::{Log, Ran};
+pub use writing::write_log;

@@ -1,8 +1,10 @@
 -- Stages that are decided, one after another.
-use Rattle.std.proofs.Common.{◌≢◌, ◌∙◌, refl, sym, ap, subst, inl, inr, ◌⊎◌, ℕ, ◌<◌, ◌≤◌, ◌≡◌, List, Result, Ok, Err, length, ℤ, arith}
+use Rattle.std.proofs.Common.{◌≢◌, ◌∙◌, refl, sym, ap, subst, inl, inr, ◌⊎◌, ℕ, ◌<◌, ◌≤◌, List, length, arith}
 use Rattle.std.proofs.lemmas.Bool.{cases_lt}
 use Rattle.gs_grammar.specs.Lawful.{IsLawful}
 use Rattle.gs_design.specs.declared.library.Library.{Library}
+use Rattle.gs_design.specs.declared.parts.Parts.{Parts}
+use Rattle.gs_design.specs.declared.units.Units.{Units}
 use Rattle.gs_lib.specs.Library as lib
 use Rattle.gs_lib.specs.Library.{IsLibraryOf}
 use Rattle.gs_lib.specs.declared.error.LibErr.TheVariants as lib_err
@@ -10,25 +12,36 @@ use Rattle.gs_libtree.specs.Refusal as tree
 use Rattle.gs_libtree.specs.Refusal.{IsLiberty}
 use Rattle.gs_libtree.specs.declared.error.LibTextErr.TheVariants as tree_err
 use Rattle.gs_libtree.specs.declared.tree.Node.{Node}
+use Rattle.gs_link.specs.Answers.{IsLawfulUpToCycle}
+use Rattle.gs_link.specs.Cause as linking
+use Rattle.gs_link.specs.Linked.{Linked}
+use Rattle.gs_sdc.specs.Sdc as sdc
+use Rattle.gs_sdc.specs.Sdc.{IsSdc}
+use Rattle.gs_sdc.specs.Terms.{Terms}
+use Rattle.gs_sdc.specs.declared.error.SdcErr.TheVariants as sdc_err
+use Rattle.gs_spef.specs.Refusal as spef
+use Rattle.gs_spef.specs.Spef.{IsSpef}
+use Rattle.gs_spef.specs.declared.error.SpefErr.TheVariants as spef_err
+use Rattle.gs_spef.specs.declared.wires.Wire.{Wire}
 use Rattle.gs_shelf.specs.declared.whole.TheConstants.{FILE_LIMIT}
-use Rattle.gs_report.specs.declared.error.SumErr.{SumErr}
-use Rattle.gs_verilog.specs.Circuit.{Circuit}
+use Rattle.gs_survey.specs.declared.error.LinkErr.{LinkErr}
+use Rattle.gs_survey.specs.declared.error.LinkErr.TheVariants as link_err
+use Rattle.gs_verilog.specs.Circuit.{Circuit, IsNetlist}
 use Rattle.gs_verilog.specs.Refusal as netlist
 use Rattle.gs_verilog.specs.Refusal.{IsVerilog}
 use Rattle.gs_verilog.specs.declared.error.VerilogErr.TheVariants as verilog_err
 use Rattle.gs_top.specs.Command.{inputs_of}
-use Rattle.gs_top.specs.Design.{IsLinked, LibertyCause, LinkCause, NetlistCause, sum_in, liberty, library_in, library, netlist_text, link, design}
+use Rattle.gs_top.specs.Design.{LibertyCause, NetlistCause, SpefCause, SdcCause, LinkCause, liberty, library_in, library, netlist_text, spef_text, sdc_text, link, linked_with, design}
 use Rattle.gs_top.specs.Kind.{SameRefusal, cycle_aside}
 use Rattle.gs_top.specs.Law.{IsDecided, EachJobIsDecided}
-use Rattle.gs_top.specs.Refusal.{tree_status, lib_status, sum_status, verilog_status}
+use Rattle.gs_top.specs.Refusal.{tree_status, lib_status, verilog_status, spef_status, sdc_status, link_status}
 use Rattle.gs_top.specs.Stage.{Bytes, Stage, and_then, judge, fetch, Caused}
-use Rattle.gs_top.specs.declared.design.Design.{Design}
 use Rattle.gs_top.specs.declared.job.Job.TheVariants.{Size}
 use Rattle.gs_top.specs.declared.status.Input.{Input}
-use Rattle.gs_top.specs.declared.status.Input.TheVariants.{Lib, Verilog}
+use Rattle.gs_top.specs.declared.status.Input.TheVariants.{Lib, Verilog, Spef, Sdc}
 use Rattle.gs_top.specs.declared.status.Status.{Status}
 use Rattle.gs_top.specs.declared.status.Status.TheVariants.{TooLarge}
-use Rattle.gs_top.proofs.Linking.{one_design, same_error, never}
+use Rattle.gs_top.proofs.Linking.{one_status}
 
 module _ {V W : Type 0} (a : Stage V) (next : V → Stage W) (b : Bytes) (first : IsDecided a b) (second : (v : V) → a.makes b v → IsDecided (next v) b) where
   some_then : (v : V) → a.makes b v → ((w : W) × (next v).makes b w) ⊎ ((s : Status) × (next v).refuses b s)
@@ -92,40 +105,60 @@ module _ {V E : Type 0} (mem : E) (status_of : E → Status) (Is : V → Type 0)
     one_refusal = λ s t h k. ap cycle_aside (k.3 ∙ ap status_of (law.one_cause h.0 k.0 h.1 h.2 k.1 k.2) ∙ sym h.3);
   }
 
--- ## The stages of each command
+module _ (l : Library) (c : Circuit) (w : List Wire) (k : Terms) (law : IsLawfulUpToCycle (Linked c l w k) (linking.HasCause c l w k)) where
+  link_some : ((p : Parts) × Linked c l w k p) ⊎ ((e : LinkErr) × (e ≢ link_err.Mem) × linking.HasCause c l w k e) → ((p : Parts) × Linked c l w k p) ⊎ ((s : Status) × LinkCause l c w k s)
+  link_some (inl h) = inl h
+  link_some (inr h) = inr (link_status h.0, (h.0, h.1, h.2, refl))
 
-module _ (l : Library) (c : Circuit) where
-  link_some : (r : Result ℤ SumErr) → sum_in l c ≡ r → ((d : Design) × IsLinked l c d) ⊎ ((s : Status) × LinkCause l c s)
-  link_some (Ok total) e =
-      inl (record { library = l; netlist = c; total = total }, record { library = refl; netlist = refl; total = e })
-  link_some (Err f) e = inr (sum_status c.insts f, (f, e, refl))
-
-  -- the sum of a netlist's leakage is decided
-  pub link_decided : (b : Bytes) → IsDecided (link l c) b
+  -- what four parsed files make is decided
+  pub link_decided : (b : Bytes) → IsDecided (link l c w k) b
   link_decided b = record {
-    some = link_some (sum_in l c) refl;
-    apart = λ d s m h. never h.0 d.total (sym m.total ∙ h.1);
-    one_value = λ d e m n. one_design l c d e m n;
-    one_refusal = λ s t h k. ap cycle_aside (k.2 ∙ ap (sum_status c.insts) (same_error h.0 k.0 (sym h.1 ∙ k.1)) ∙ sym h.2);
+    some = link_some law.decided;
+    apart = λ p s m h. law.apart p h.0 m h.1 h.2;
+    one_value = law.one_design;
+    one_refusal = λ s t h k. ap cycle_aside k.3 ∙ one_status k.0 h.0 k.1 h.1 (law.one_cause h.0 k.0 h.1 h.2 k.1 k.2) ∙ sym (ap cycle_aside h.3);
   }
 
-module _ (liberties : (bytes : List ℕ) → IsLawful tree_err.Mem (IsLiberty bytes) (tree.HasCause bytes)) (netlists : (bytes : List ℕ) → IsLawful verilog_err.Mem (IsVerilog bytes) (netlist.HasCause bytes)) (trees : (root : Node) → IsLawful lib_err.Mem (IsLibraryOf root) (lib.HasCause root)) (b : Bytes) where
+-- ## The stages of each command
+
+-- what each reader's law says, and that of the link
+pub record Laws : Type 0 where
+  pub liberties : (bytes : List ℕ) → IsLawful tree_err.Mem (IsLiberty bytes) (tree.HasCause bytes)
+  pub trees : (root : Node) → IsLawful lib_err.Mem (IsLibraryOf root) (lib.HasCause root)
+  pub netlists : (bytes : List ℕ) → IsLawful verilog_err.Mem (IsVerilog bytes) (netlist.HasCause bytes)
+  pub wires : (bytes : List ℕ) → IsLawful spef_err.Mem (IsSpef bytes) (spef.HasCause bytes)
+  pub constraints : (units : Units) (bytes : List ℕ) → IsLawful sdc_err.Mem (IsSdc units bytes) (sdc.HasCause units bytes)
+  pub kept : (bytes : List ℕ) (c : Circuit) → IsVerilog bytes c → IsNetlist c
+  pub links : (c : Circuit) (l : Library) (w : List Wire) (k : Terms) → IsNetlist c → IsLawfulUpToCycle (Linked c l w k) (linking.HasCause c l w k)
+
+module _ (laws : Laws) (b : Bytes) where
   liberty_decided : IsDecided liberty b
   liberty_decided =
-      decided_then (fetch Lib) (λ bytes. judge (IsLiberty bytes) (LibertyCause bytes)) b (decided_fetch Lib b) (λ bytes m. decided_read tree_err.Mem tree_status (IsLiberty bytes) (tree.HasCause bytes) (liberties bytes) b)
+      decided_then (fetch Lib) (λ bytes. judge (IsLiberty bytes) (LibertyCause bytes)) b (decided_fetch Lib b) (λ bytes m. decided_read tree_err.Mem tree_status (IsLiberty bytes) (tree.HasCause bytes) (laws.liberties bytes) b)
 
   library_decided : IsDecided library b
   library_decided =
-      decided_then liberty library_in b liberty_decided (λ root m. decided_read lib_err.Mem lib_status (IsLibraryOf root) (lib.HasCause root) (trees root) b)
+      decided_then liberty library_in b liberty_decided (λ root m. decided_read lib_err.Mem lib_status (IsLibraryOf root) (lib.HasCause root) (laws.trees root) b)
 
   netlist_decided : IsDecided netlist_text b
   netlist_decided =
-      decided_then (fetch Verilog) (λ bytes. judge (IsVerilog bytes) (NetlistCause bytes)) b (decided_fetch Verilog b) (λ bytes m. decided_read verilog_err.Mem verilog_status (IsVerilog bytes) (netlist.HasCause bytes) (netlists bytes) b)
+      decided_then (fetch Verilog) (λ bytes. judge (IsVerilog bytes) (NetlistCause bytes)) b (decided_fetch Verilog b) (λ bytes m. decided_read verilog_err.Mem verilog_status (IsVerilog bytes) (netlist.HasCause bytes) (laws.netlists bytes) b)
+
+  wires_decided : IsDecided spef_text b
+  wires_decided =
+      decided_then (fetch Spef) (λ bytes. judge (IsSpef bytes) (SpefCause bytes)) b (decided_fetch Spef b) (λ bytes m. decided_read spef_err.Mem spef_status (IsSpef bytes) (spef.HasCause bytes) (laws.wires bytes) b)
+
+  constraints_decided : (units : Units) → IsDecided (sdc_text units) b
+  constraints_decided units =
+      decided_then (fetch Sdc) (λ bytes. judge (IsSdc units bytes) (SdcCause units bytes)) b (decided_fetch Sdc b) (λ bytes m. decided_read sdc_err.Mem sdc_status (IsSdc units bytes) (sdc.HasCause units bytes) (laws.constraints units bytes) b)
+
+  linked_decided : (l : Library) (c : Circuit) → IsNetlist c → IsDecided (linked_with l c) b
+  linked_decided l c kept =
+      decided_then spef_text (λ w. and_then (sdc_text l.units) (λ k. link l c w k)) b wires_decided (λ w m. decided_then (sdc_text l.units) (λ k. link l c w k) b (constraints_decided l.units) (λ k n. link_decided l c w k (laws.links c l w k kept) b))
 
   design_decided : IsDecided design b
   design_decided =
-      decided_then library (λ l. and_then netlist_text (λ c. link l c)) b library_decided (λ l m. decided_then netlist_text (λ c. link l c) b netlist_decided (λ c n. link_decided l c b))
+      decided_then library (λ l. and_then netlist_text (λ c. linked_with l c)) b library_decided (λ l m. decided_then netlist_text (λ c. linked_with l c) b netlist_decided (λ c n. linked_decided l c (laws.kept n.0 c n.2)))
 
-pub each_job : ((bytes : List ℕ) → IsLawful tree_err.Mem (IsLiberty bytes) (tree.HasCause bytes)) → ((bytes : List ℕ) → IsLawful verilog_err.Mem (IsVerilog bytes) (netlist.HasCause bytes))
-    → ((root : Node) → IsLawful lib_err.Mem (IsLibraryOf root) (lib.HasCause root)) → EachJobIsDecided
-each_job liberties netlists trees (Size j) files = design_decided liberties netlists trees (inputs_of (Size j) files)
+pub each_job : Laws → EachJobIsDecided
+each_job laws (Size j) files = design_decided laws (inputs_of (Size j) files)

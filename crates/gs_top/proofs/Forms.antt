@@ -1,6 +1,11 @@
 -- The words of a command, and the job that they make.
-use Rattle.std.proofs.Common.{◌≡◌, refl, sym, subst, ℕ, ◌<◌, ◌==◌, ◌&&◌, Bool, true, false, List, [], ◌∷◌, Some, length, map, arith}
-use Rattle.gs_top.specs.Job.{are_given, is_good, is_size, size_of, size_with, size_options, value_of}
+use Rattle.std.proofs.Common.{◌≡◌, ◌≢◌, refl, sym, subst, ℕ, ◌<◌, ◌==◌, ◌&&◌, ◌||◌, not, Bool, true, false, List, [], ◌∷◌, Some, length, map, arith}
+use Rattle.std.specs.List.{list_any}
+use Rattle.std.specs.Str.{bytes_eq}
+use Rattle.std.proofs.lemmas.Slice.Eq.{bytes_eq-Decides}
+use Rattle.gs_top.specs.Job.{are_given, are_names, is_good, output_of, is_size, size_of, size_with, size_options, value_of}
+use Rattle.gs_top.specs.Plan.{AllDiffer}
+use Rattle.gs_top.specs.declared.status.Output.TheVariants.{Sizes, Report}
 use Rattle.gs_top.specs.declared.job.Job.TheVariants.{Size}
 use Rattle.gs_top.specs.declared.job.SizeJob.{SizeJob}
 
@@ -28,3 +33,31 @@ size_good ws j h e =
 
 pub size_made : (ws : List (List ℕ)) → is_size ws ≡ true → size_of ws ≡ Some (Size (size_with ws))
 size_made ws h = rw h refl
+
+-- the names after the first are names too
+rest_good : (n : List ℕ) (ns : List (List ℕ)) → are_names (n ∷ ns) ≡ true → are_names ns ≡ true
+rest_good n ns h =
+    both (not (list_any (bytes_eq n) ns)) (are_names ns) (both (not (length n == 0)) (not (list_any (bytes_eq n) ns) && are_names ns) h)
+
+front : (a b : Bool) → (a && b) ≡ true → a ≡ true
+front true b h = refl
+front false b h = absurd cc
+
+clash : (b : Bool) → b ≡ true → not (b || false) ≡ true → ⊥
+clash true e h = cc
+clash false e h = cc
+
+two_differ : (n m : List ℕ) → are_names (n ∷ m ∷ []) ≡ true → n ≢ m
+two_differ n m h e =
+    let later = both (not (length n == 0)) (not (list_any (bytes_eq n) (m ∷ [])) && are_names (m ∷ [])) h in
+    clash (bytes_eq n m) ((bytes_eq-Decides n m).1 e) (front (not (list_any (bytes_eq n) (m ∷ []))) (are_names (m ∷ [])) later)
+
+-- the names of two outputs differ
+pub outputs_differ : (j : SizeJob) → is_good (Size j) ≡ true → AllDiffer (output_of (Size j)) (Sizes ∷ Report ∷ [])
+outputs_differ j h =
+    let three = rest_good j.lib (j.verilog ∷ j.spef ∷ j.sdc ∷ j.sizes ∷ j.report ∷ []) h in
+    let four = rest_good j.verilog (j.spef ∷ j.sdc ∷ j.sizes ∷ j.report ∷ []) three in
+    let five = rest_good j.spef (j.sdc ∷ j.sizes ∷ j.report ∷ []) four in
+    let last = rest_good j.sdc (j.sizes ∷ j.report ∷ []) five in
+    let differ = two_differ j.sizes j.report last in
+    ((λ e. cc), (differ, tt), ((λ e. cc), tt, tt))

@@ -2,7 +2,9 @@ pub mod Acting
 pub mod Counts
 pub mod Deciding
 pub mod Fetching
+pub mod Leaks
 pub mod Linking
+pub mod Naming
 pub mod Planning
 pub mod Readers
 pub mod Running

@@ -1,56 +1,64 @@
--- What linking a library and a netlist settles.
-use Rattle.std.proofs.Common.{◌≡◌, ◌∙◌, refl, sym, ap, subst, inl, inr, ℕ, ◌<◌, List, [], ◌∷◌, zero, suc, length, get_or, Result, Ok, Err, ℤ, arith}
-use Rattle.gs_design.specs.declared.library.Library.{Library}
-use Rattle.gs_report.specs.declared.error.SumErr.{SumErr}
-use Rattle.gs_report.specs.declared.error.SumErr.TheVariants as sum
-use Rattle.gs_verilog.specs.Circuit.{Circuit}
-use Rattle.gs_verilog.specs.declared.parts.RawInst.{RawInst}
+-- What linking four files settles.
+use Rattle.std.proofs.Common.{◌≡◌, ◌≢◌, ◌∙◌, refl, sym, ap, subst, inl, inr, ◌⊎◌, Err}
+use Rattle.gs_link.specs.Cause as linking
+use Rattle.gs_survey.specs.declared.error.LinkErr.{LinkErr}
+use Rattle.gs_survey.specs.declared.error.LinkErr.TheVariants as link
 use Rattle.gs_top.specs.Answer.{Settles}
-use Rattle.gs_top.specs.Design.{IsLinked, LinkCause, sum_in}
-use Rattle.gs_top.specs.Kind.{IsRefusal, cycle_aside}
-use Rattle.gs_top.specs.Refusal.{inst_name_at, sum_status, IsOrLost}
-use Rattle.gs_top.specs.declared.design.Design.{Design}
+use Rattle.gs_top.specs.Kind.{IsRefusal, SameRefusal, cycle_aside}
+use Rattle.gs_top.specs.Refusal.{link_status}
+use Rattle.gs_top.specs.Stage.{Caused}
 use Rattle.gs_top.specs.declared.status.Status.{Status}
+use Rattle.gs_top.specs.declared.status.Status.TheVariants.{BadDesign}
+use Rattle.gs_top.proofs.Readers.{Split}
 
-same_design : (d e : Design) → e.library ≡ d.library → e.netlist ≡ d.netlist → e.total ≡ d.total → e ≡ d
-same_design d e p q r = λ i. record { library = p i; netlist = q i; total = r i }
+pub link_split : (e : LinkErr) → Split link.Mem link_status e
+link_split (link.UnknownCell by) = inr (λ h. cc, record { kind = refl; no_mem = λ h. cc })
+link_split (link.UnknownPin by pin) = inr (λ h. cc, record { kind = refl; no_mem = λ h. cc })
+link_split (link.OpenPin inst pin) = inr (λ h. cc, record { kind = refl; no_mem = λ h. cc })
+link_split (link.TwoDrivers net) = inr (λ h. cc, record { kind = refl; no_mem = λ h. cc })
+link_split (link.Undriven net) = inr (λ h. cc, record { kind = refl; no_mem = λ h. cc })
+link_split (link.UnknownPort name) = inr (λ h. cc, record { kind = refl; no_mem = λ h. cc })
+link_split (link.UnknownNet name) = inr (λ h. cc, record { kind = refl; no_mem = λ h. cc })
+link_split (link.NoArc cell pin) = inr (λ h. cc, record { kind = refl; no_mem = λ h. cc })
+link_split (link.TooMany what count) = inr (λ h. cc, record { kind = refl; no_mem = λ h. cc })
+link_split (link.Loop cycle) = inr (λ h. cc, record { kind = refl; no_mem = λ h. cc })
+link_split link.Mem = inl refl
 
-pub same_total : (m n : ℤ) → ◌≡◌ {A = Result ℤ SumErr} (Ok m) (Ok n) → n ≡ m
-same_total m n e = cc
+-- a refusal but want of memory is a bad design
+bad : (e : LinkErr) → e ≢ link.Mem → link_status e ≡ BadDesign e
+bad (link.UnknownCell by) h = refl
+bad (link.UnknownPin by pin) h = refl
+bad (link.OpenPin inst pin) h = refl
+bad (link.TwoDrivers net) h = refl
+bad (link.Undriven net) h = refl
+bad (link.UnknownPort name) h = refl
+bad (link.UnknownNet name) h = refl
+bad (link.NoArc cell pin) h = refl
+bad (link.TooMany what count) h = refl
+bad (link.Loop cycle) h = refl
+bad link.Mem h = absurd (h refl)
 
-pub never : (e : SumErr) (m : ℤ) → ◌≡◌ {A = Result ℤ SumErr} (Ok m) (Err e) → ⊥
-never e m h = cc
+aside_bad : (e : LinkErr) → cycle_aside (BadDesign e) ≡ BadDesign (linking.cycle_aside e)
+unfolding cycle_aside
+aside_bad e = refl
 
-pub same_error : (e f : SumErr) → ◌≡◌ {A = Result ℤ SumErr} (Err e) (Err f) → f ≡ e
-same_error e f h = cc
+aside : (e : LinkErr) → e ≢ link.Mem → cycle_aside (link_status e) ≡ BadDesign (linking.cycle_aside e)
+aside e h = ap cycle_aside (bad e h) ∙ aside_bad e
 
-refusal : (insts : List RawInst) (e : SumErr) → IsRefusal (sum_status insts e)
-refusal insts (sum.UnknownCell k) = record { kind = refl; no_mem = tt }
-refusal insts (sum.TooMany n) = record { kind = refl; no_mem = tt }
+-- refusals that differ in the cycle at most are one
+pub one_status : (e f : LinkErr) → e ≢ link.Mem → f ≢ link.Mem → linking.SameRefusal e f → SameRefusal (link_status e) (link_status f)
+one_status e f h k same = aside e h ∙ ap BadDesign same ∙ sym (aside f k)
 
-module _ (l : Library) (c : Circuit) where
-  pub one_design : (d e : Design) → IsLinked l c d → IsLinked l c e → e ≡ d
-  one_design d e h k =
-      same_design d e (k.library ∙ sym h.library) (k.netlist ∙ sym h.netlist) (same_total d.total e.total (sym h.total ∙ k.total))
+module _ {V : Type 0} (Is : V → Type 0) (Has : LinkErr → Type 0) (e : LinkErr) (s : Status) (is : s ≡ link_status e) (exact : (f : LinkErr) → f ≢ link.Mem → Has f → linking.SameRefusal e f ⊎ (e ≡ link.Mem)) where
+  same : e ≢ link.Mem → (t : Status) → Caused link.Mem link_status Has t → SameRefusal t s
+  same ne t h =
+      elim (exact h.0 h.1 h.2) [ inl x ↦ ap cycle_aside h.3 ∙ one_status h.0 e h.1 ne (sym x) ∙ sym (ap cycle_aside is) | inr x ↦ absurd (ne x) ]
 
-  pub linked : (d : Design) → IsLinked l c d → Settles (IsLinked l c) (LinkCause l c) (Ok d)
-  linked d is = record {
-    stands = is;
-    only = λ e h. one_design d e is h;
-    accepted = λ s h. never h.0 d.total (sym is.total ∙ h.1);
-  }
-
-  pub unlinked : (e : SumErr) (s : Status) → IsOrLost (sum_status c.insts e) s → sum_in l c ≡ Err e → Settles (IsLinked l c) (LinkCause l c) (Err s)
-  unlinked e s (inl h) has = inl h
-  unlinked e s (inr is) has = inr (record {
-    refusal = subst IsRefusal (sym is) (refusal c.insts e);
-    stands = (e, has, is);
-    only = λ u h. ap cycle_aside (h.2 ∙ ap (sum_status c.insts) (same_error e h.0 (sym has ∙ h.1)) ∙ sym is);
-    nothing = λ d h. never e d.total (sym h.total ∙ has);
+  pub unlinked : Split link.Mem link_status e → Has e → ((w : V) → Is w → e ≡ link.Mem) → Settles Is (Caused link.Mem link_status Has) (Err s)
+  unlinked (inl m) has only = inl (is ∙ ap link_status m)
+  unlinked (inr k) has only = inr (record {
+    refusal = subst IsRefusal (sym is) k.1;
+    stands = (e, k.0, has, is);
+    only = same k.0;
+    nothing = λ v h. k.0 (only v h);
   })
-
--- the name of an instance by its number
-pub name_there : (insts : List RawInst) (k : ℕ) (d : RawInst) → k < length insts → (get_or insts k d).name ≡ inst_name_at insts k
-name_there [] k d h = absurd (omega arith)
-name_there (i ∷ is) zero d h = refl
-name_there (i ∷ is) (suc k) d h = name_there is k d (omega arith)

@@ -3,7 +3,7 @@ use Rattle.std.proofs.Common.{◌≡◌, refl, ℕ, List, Ok, Err, ap}
 use Rattle.gs_top.specs.Answer.{Seen, ByMemory, Works}
 use Rattle.gs_top.specs.Command.{Command, Prepares, size, size_plan}
 use Rattle.gs_top.specs.Plan.{outputs_in}
-use Rattle.gs_top.specs.declared.design.Design.{Design}
+use Rattle.gs_design.specs.declared.design.Design.{Design}
 use Rattle.gs_top.specs.declared.plan.Plan.{Plan}
 use Rattle.gs_top.specs.declared.status.Input.{Input}
 use Rattle.gs_top.specs.declared.status.Status.{Status}

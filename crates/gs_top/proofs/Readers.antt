@@ -4,11 +4,15 @@ use Rattle.gs_lib.specs.declared.error.LibErr.{LibErr}
 use Rattle.gs_lib.specs.declared.error.LibErr.TheVariants as lib
 use Rattle.gs_libtree.specs.declared.error.LibTextErr.{LibTextErr}
 use Rattle.gs_libtree.specs.declared.error.LibTextErr.TheVariants as tree
+use Rattle.gs_sdc.specs.declared.error.SdcErr.{SdcErr}
+use Rattle.gs_sdc.specs.declared.error.SdcErr.TheVariants as sdc
+use Rattle.gs_spef.specs.declared.error.SpefErr.{SpefErr}
+use Rattle.gs_spef.specs.declared.error.SpefErr.TheVariants as spef
 use Rattle.gs_verilog.specs.declared.error.VerilogErr.{VerilogErr}
 use Rattle.gs_verilog.specs.declared.error.VerilogErr.TheVariants as verilog
 use Rattle.gs_top.specs.Answer.{Settles}
 use Rattle.gs_top.specs.Kind.{IsRefusal, SameRefusal, cycle_aside}
-use Rattle.gs_top.specs.Refusal.{tree_status, lib_status, verilog_status}
+use Rattle.gs_top.specs.Refusal.{tree_status, lib_status, verilog_status, spef_status, sdc_status}
 use Rattle.gs_top.specs.Stage.{Caused}
 use Rattle.gs_top.specs.declared.status.Status.{Status}
 use Rattle.gs_top.specs.declared.status.Status.TheVariants.{OutOfMemory}
@@ -62,3 +66,18 @@ verilog_split (verilog.BadPiece i) = inr (λ h. cc, record { kind = refl; no_mem
 verilog_split (verilog.TwoNames i) = inr (λ h. cc, record { kind = refl; no_mem = tt })
 verilog_split (verilog.NoEnd i) = inr (λ h. cc, record { kind = refl; no_mem = tt })
 verilog_split verilog.Mem = inl refl
+
+pub spef_split : (e : SpefErr) → Split spef.Mem spef_status e
+spef_split (spef.BadLine i) = inr (λ h. cc, record { kind = refl; no_mem = tt })
+spef_split (spef.Distributed i) = inr (λ h. cc, record { kind = refl; no_mem = tt })
+spef_split (spef.UnknownIndex i) = inr (λ h. cc, record { kind = refl; no_mem = tt })
+spef_split (spef.TwoNets i) = inr (λ h. cc, record { kind = refl; no_mem = tt })
+spef_split spef.Mem = inl refl
+
+pub sdc_split : (e : SdcErr) → Split sdc.Mem sdc_status e
+sdc_split (sdc.NotBuilt i) = inr (λ h. cc, record { kind = refl; no_mem = tt })
+sdc_split (sdc.BadLine i) = inr (λ h. cc, record { kind = refl; no_mem = tt })
+sdc_split (sdc.TwoClocks i) = inr (λ h. cc, record { kind = refl; no_mem = tt })
+sdc_split (sdc.TwoValues i) = inr (λ h. cc, record { kind = refl; no_mem = tt })
+sdc_split (sdc.NoClock i) = inr (λ h. cc, record { kind = refl; no_mem = tt })
+sdc_split sdc.Mem = inl refl

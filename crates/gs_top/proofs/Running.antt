@@ -9,7 +9,7 @@ use Rattle.gs_top.specs.Answer.{Seen}
 use Rattle.gs_top.specs.Job.{input_of, output_of}
 use Rattle.gs_top.specs.Kind.{Kind, Success, NoJob, Unread, Refused, Unwritten, Unsaid, NoMemory, kind_of}
 use Rattle.gs_top.specs.Line.{line_of, unsaid, unsaid_by, Ended, Whole, Failed, NoRoom, IsSaid}
-use Rattle.gs_top.specs.Run.{StoredOf, FirstRefusalOf, IsAccepted, LeavesBy, JobLeaves, LeavesOf, WorkCausesBy, WorkCauses, StillButSaying, IsWorkOf, CausesBy, CausesOf, NoneRose, IsDone, FirstRefusalBy, AnswersBy, AnswersRefusal, SaysLine, SaysBy, SaysOf}
+use Rattle.gs_top.specs.Run.{StoredOf, FirstRefusalOf, IsAccepted, LeavesBy, JobLeaves, LeavesOf, WorkCausesBy, WorkCauses, StillButSaying, CausesBy, CausesOf, NoneRose, IsDone, FirstRefusalBy, AnswersBy, AnswersRefusal, SaysLine, SaysBy, SaysOf}
 use Rattle.gs_top.specs.declared.job.Job.{Job}
 use Rattle.gs_top.specs.declared.status.Output.{Output}
 use Rattle.gs_top.specs.declared.status.Output.TheVariants.{Console}

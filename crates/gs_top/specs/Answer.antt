@@ -31,6 +31,11 @@ pub record IsRefused {V : Type 0} (Is : V → Type 0) (Cause : Status → Type 0
   pub only : (t : Status) → Cause t → SameRefusal t s
   pub nothing : (v : V) → Is v → ⊥
 
+-- a call's answer, where contracts see its value by this
+abbrev pub seen_as : {A B : Type 0} → (A → B) → Result A Status → Result B Status
+seen_as view (Ok a) = Ok (view a)
+seen_as view (Err s) = Err s
+
 -- the answer of a call that touches no shelf
 abbrev pub Settles : {V : Type 0} → (V → Type 0) → (Status → Type 0) → Result V Status → Type 0
 Settles Is Cause (Ok v) = IsMade Is Cause v

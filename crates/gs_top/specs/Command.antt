@@ -1,5 +1,9 @@
 -- The commands: the stages of each, and what it stores of what they make.
 use Rattle.std.specs.Prelude.{◌≡◌, ℕ, List, [], ◌∷◌, length, Result, Ok, Err}
+use Rattle.gs_design.specs.Parts.{parts_of}
+use Rattle.gs_design.specs.Sizes.{netlist_sizes}
+use Rattle.gs_design.specs.declared.design.Design.{Design}
+use Rattle.gs_design.specs.declared.parts.Parts.{Parts}
 use Rattle.gs_shelf.specs.Faults.{NoneFell, CountsStay}
 use Rattle.gs_shelf.specs.Files.{Files, AllStay}
 use Rattle.gs_top.specs.Answer.{Seen, IsMade, Stopped, Unfetched}
@@ -8,7 +12,6 @@ use Rattle.gs_top.specs.Job.{input_of}
 use Rattle.gs_top.specs.Plan.{outputs_in}
 use Rattle.gs_top.specs.Stage.{Bytes, Stage, bytes_of}
 use Rattle.gs_top.specs.Texts.{sizes_text, report_text}
-use Rattle.gs_top.specs.declared.design.Design.{Design}
 use Rattle.gs_top.specs.declared.job.Job.{Job}
 use Rattle.gs_top.specs.declared.job.Job.TheVariants.{Size}
 use Rattle.gs_top.specs.declared.plan.Plan.{Plan}
@@ -33,19 +36,19 @@ pub record Command : Type 1 where
 abbrev pub text : Output → List ℕ → Text
 text to bytes = record { to = to; bytes = bytes }
 
--- the sizes and the report of the design, and how many instances were written
+-- the sizes and the report of a design as its netlist sizes it, and how many instances were written
 abbrev pub size_plan : Design → Plan
 size_plan d = record {
-  texts = text Sizes (sizes_text d.netlist.insts) ∷ text Report (report_text d) ∷ [];
-  success = Written (length d.netlist.insts);
+  texts = text Sizes (sizes_text d (netlist_sizes d)) ∷ text Report (report_text d (netlist_sizes d)) ∷ [];
+  success = Written (length d.insts);
 }
 
 abbrev pub size : Command
 size = record {
-  Made = Design;
+  Made = Parts;
   work = design;
   outputs = Sizes ∷ Report ∷ [];
-  plans = λ d plan. plan ≡ size_plan d;
+  plans = λ parts plan. (d : Design) × (parts_of d ≡ parts) × (plan ≡ size_plan d);
   succeeds = λ s. (instances : ℕ) × (s ≡ Written instances);
 }
 

@@ -1,22 +1,31 @@
--- The stages of the design that a command works on: the library, the netlist, and what they make together.
-use Rattle.std.specs.Prelude.{◌≡◌, ℕ, List, map, Result, Ok, Err, ℤ}
+-- The stages of the design that a command works on: the library, the netlist, the wires, the constraints, and what they make together.
+use Rattle.std.specs.Prelude.{ℕ, List}
 use Rattle.gs_design.specs.declared.library.Library.{Library}
-use Rattle.gs_lib.specs.Draft.{cell_lists}
+use Rattle.gs_design.specs.declared.parts.Parts.{Parts}
+use Rattle.gs_design.specs.declared.units.Units.{Units}
 use Rattle.gs_lib.specs.Library as lib
 use Rattle.gs_lib.specs.Library.{IsLibraryOf}
 use Rattle.gs_lib.specs.declared.error.LibErr.TheVariants as lib_err
 use Rattle.gs_libtree.specs.Refusal as tree
 use Rattle.gs_libtree.specs.declared.error.LibTextErr.TheVariants as tree_err
 use Rattle.gs_libtree.specs.declared.tree.Node.{Node}
-use Rattle.gs_report.specs.Sum.{sum_of}
-use Rattle.gs_report.specs.declared.error.SumErr.{SumErr}
+use Rattle.gs_link.specs.Cause as linking
+use Rattle.gs_link.specs.Linked.{Linked}
+use Rattle.gs_survey.specs.declared.error.LinkErr.TheVariants as link_err
+use Rattle.gs_sdc.specs.Sdc as sdc
+use Rattle.gs_sdc.specs.Sdc.{IsSdc}
+use Rattle.gs_sdc.specs.Terms.{Terms}
+use Rattle.gs_sdc.specs.declared.error.SdcErr.TheVariants as sdc_err
+use Rattle.gs_spef.specs.Refusal as spef
+use Rattle.gs_spef.specs.Spef.{IsSpef}
+use Rattle.gs_spef.specs.declared.error.SpefErr.TheVariants as spef_err
+use Rattle.gs_spef.specs.declared.wires.Wire.{Wire}
 use Rattle.gs_verilog.specs.Circuit.{Circuit}
 use Rattle.gs_verilog.specs.Refusal as netlist
 use Rattle.gs_verilog.specs.declared.error.VerilogErr.TheVariants as verilog_err
-use Rattle.gs_top.specs.Refusal.{tree_status, lib_status, verilog_status, sum_status}
+use Rattle.gs_top.specs.Refusal.{tree_status, lib_status, verilog_status, spef_status, sdc_status, link_status}
 use Rattle.gs_top.specs.Stage.{Stage, and_then, judge, read_file, Caused}
-use Rattle.gs_top.specs.declared.design.Design.{Design}
-use Rattle.gs_top.specs.declared.status.Input.TheVariants.{Lib, Verilog}
+use Rattle.gs_top.specs.declared.status.Input.TheVariants.{Lib, Verilog, Spef, Sdc}
 use Rattle.gs_top.specs.declared.status.Status.{Status}
 
 abbrev pub LibertyCause : List ℕ → Status → Type 0
@@ -27,6 +36,15 @@ LibraryCause root = Caused lib_err.Mem lib_status (lib.HasCause root)
 
 abbrev pub NetlistCause : List ℕ → Status → Type 0
 NetlistCause bytes = Caused verilog_err.Mem verilog_status (netlist.HasCause bytes)
+
+abbrev pub SpefCause : List ℕ → Status → Type 0
+SpefCause bytes = Caused spef_err.Mem spef_status (spef.HasCause bytes)
+
+abbrev pub SdcCause : Units → List ℕ → Status → Type 0
+SdcCause units bytes = Caused sdc_err.Mem sdc_status (sdc.HasCause units bytes)
+
+abbrev pub LinkCause : Library → Circuit → List Wire → Terms → Status → Type 0
+LinkCause l c w k = Caused link_err.Mem link_status (linking.HasCause c l w k)
 
 -- the library's text
 abbrev pub liberty : Stage Node
@@ -42,23 +60,20 @@ library = and_then liberty library_in
 abbrev pub netlist_text : Stage Circuit
 netlist_text = read_file Verilog netlist.IsVerilog NetlistCause
 
--- the answer of summing the leakage over the instances
-abbrev pub sum_in : Library → Circuit → Result ℤ SumErr
-sum_in l c = sum_of (map cell_lists l.cells) c.insts
+abbrev pub spef_text : Stage (List Wire)
+spef_text = read_file Spef IsSpef SpefCause
 
--- the design of a library and a netlist, with the sum over its instances of the leakage of the cell that each names
-pub record IsLinked (l : Library) (c : Circuit) (d : Design) : Type 0 where
-  pub library : d.library ≡ l
-  pub netlist : d.netlist ≡ c
-  pub total : sum_in l c ≡ Ok d.total
+-- its numbers are in the library's units
+abbrev pub sdc_text : Units → Stage Terms
+sdc_text units = read_file Sdc (IsSdc units) (SdcCause units)
 
--- the first instance whose cell the library lacks; or else too many instances
-abbrev pub LinkCause : Library → Circuit → Status → Type 0
-LinkCause l c s = (e : SumErr) × (sum_in l c ≡ Err e) × (s ≡ sum_status c.insts e)
+abbrev pub link : Library → Circuit → List Wire → Terms → Stage Parts
+link l c w k = judge (Linked c l w k) (LinkCause l c w k)
 
-abbrev pub link : Library → Circuit → Stage Design
-link l c = judge (IsLinked l c) (LinkCause l c)
+-- the wires and the constraints, and what the four files make
+abbrev pub linked_with : Library → Circuit → Stage Parts
+linked_with l c = and_then spef_text (λ w. and_then (sdc_text l.units) (λ k. link l c w k))
 
--- in the order of work: the library, the netlist, and then what they make
-abbrev pub design : Stage Design
-design = and_then library (λ l. and_then netlist_text (λ c. link l c))
+-- in the order of work: the library, the netlist, the wires, the constraints, and then what they make
+abbrev pub design : Stage Parts
+design = and_then library (λ l. and_then netlist_text (λ c. linked_with l c))

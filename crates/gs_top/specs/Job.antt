@@ -8,13 +8,13 @@ use Rattle.gs_top.specs.declared.job.SizeJob.{SizeJob}
 use Rattle.gs_top.specs.declared.read.WordsErr.{WordsErr}
 use Rattle.gs_top.specs.declared.read.WordsErr.TheVariants.{Usage, Mem}
 use Rattle.gs_top.specs.declared.status.Input.{Input}
-use Rattle.gs_top.specs.declared.status.Input.TheVariants.{Lib, Verilog}
+use Rattle.gs_top.specs.declared.status.Input.TheVariants.{Lib, Verilog, Spef, Sdc}
 use Rattle.gs_top.specs.declared.status.Output.{Output}
 use Rattle.gs_top.specs.declared.status.Output.TheVariants.{Sizes, Report, Console}
 
 -- the options of `size`, in the order in which its words give them
 abbrev pub size_options : List (List ℕ)
-size_options = codes "--lib" ∷ codes "--verilog" ∷ codes "--sizes" ∷ codes "--report" ∷ []
+size_options = codes "--lib" ∷ codes "--verilog" ∷ codes "--spef" ∷ codes "--sdc" ∷ codes "--sizes" ∷ codes "--report" ∷ []
 
 -- the words are these options in this order, each followed by one value
 abbrev pub are_given : (options words : List (List ℕ)) → Bool
@@ -31,6 +31,8 @@ abbrev pub size_with : List (List ℕ) → SizeJob
 size_with words = record {
   lib = value_of (codes "--lib") words;
   verilog = value_of (codes "--verilog") words;
+  spef = value_of (codes "--spef") words;
+  sdc = value_of (codes "--sdc") words;
   sizes = value_of (codes "--sizes") words;
   report = value_of (codes "--report") words;
 }
@@ -42,7 +44,7 @@ are_names (n ∷ ns) = not (length n == 0) && (not (list_any (bytes_eq n) ns) &&
 
 -- the names of a job's files
 abbrev pub names_of : Job → List (List ℕ)
-names_of (Size j) = j.lib ∷ j.verilog ∷ j.sizes ∷ j.report ∷ []
+names_of (Size j) = j.lib ∷ j.verilog ∷ j.spef ∷ j.sdc ∷ j.sizes ∷ j.report ∷ []
 
 -- the condition of a job
 abbrev pub is_good : Job → Bool
@@ -64,6 +66,8 @@ job_of (command ∷ words) = if bytes_eq command (codes "size") then size_of wor
 abbrev pub input_of : Job → Input → List ℕ
 input_of (Size j) Lib = j.lib
 input_of (Size j) Verilog = j.verilog
+input_of (Size j) Spef = j.spef
+input_of (Size j) Sdc = j.sdc
 
 abbrev pub output_of : Job → Output → List ℕ
 output_of (Size j) Sizes = j.sizes

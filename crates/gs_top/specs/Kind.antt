@@ -1,6 +1,8 @@
 -- Kinds of statuses. A further success or refusal is a line of `kind_of`, and no clause of `run` has a case for it.
 use Rattle.std.specs.Prelude.{◌≡◌, ◌≢◌}
 use Rattle.gs_lib.specs.declared.error.LibErr.TheVariants as lib
+use Rattle.gs_link.specs.Cause as linking
+use Rattle.gs_survey.specs.declared.error.LinkErr.TheVariants as link
 use Rattle.gs_top.specs.declared.status.Input.{Input}
 use Rattle.gs_top.specs.declared.status.Output.{Output}
 use Rattle.gs_top.specs.declared.status.Output.TheVariants.{Console}
@@ -33,9 +35,10 @@ kind_of (WriteFault Console) = Unsaid
 kind_of (WriteFault to) = Unwritten to
 kind_of OutOfMemory = NoMemory
 
--- a refused library holds no want of memory
+-- a refused library or design holds no want of memory
 abbrev pub HoldsNoMem : Status → Type 0
 HoldsNoMem (BadLibrary e) = e ≢ lib.Mem
+HoldsNoMem (BadDesign e) = e ≢ link.Mem
 HoldsNoMem _ = Unit {0}
 
 -- a refusal that the bytes of the files decide
@@ -43,8 +46,9 @@ pub record IsRefusal (s : Status) : Type 0 where
   pub kind : kind_of s ≡ Refused
   pub no_mem : HoldsNoMem s
 
--- a refusal for a cycle of gates without the cycle that it names; no refusal names one yet
+-- a refusal for a cycle of gates without the cycle that it names; any other as it is
 unfoldable pub cycle_aside : Status → Status
+cycle_aside (BadDesign e) = BadDesign (linking.cycle_aside e)
 cycle_aside s = s
 
 -- the refusals are one, up to the cycle that they name

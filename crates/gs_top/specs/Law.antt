@@ -1,10 +1,20 @@
 -- Each job is decided by the bytes of its files: they make one thing, or have a first refusal, which is one up to the cycle that it
 -- names. So where a stage goes on from what an earlier one made, there is one such thing.
-use Rattle.std.specs.Prelude.{◌≡◌, ◌⊎◌}
+use Rattle.std.specs.Prelude.{◌≡◌, ◌⊎◌, List}
+use Rattle.std.specs.List.{flat_map}
+use Rattle.gs_design.specs.Parts.{parts_of}
+use Rattle.gs_design.specs.Sizes.{netlist_sizes}
+use Rattle.gs_design.specs.declared.design.Design.{Design}
+use Rattle.gs_design.specs.declared.library.Library.{Library}
+use Rattle.gs_link.specs.Linked.{Linked}
+use Rattle.gs_sdc.specs.Terms.{Terms}
 use Rattle.gs_shelf.specs.Files.{Files}
+use Rattle.gs_spef.specs.declared.wires.Wire.{Wire}
+use Rattle.gs_verilog.specs.Circuit.{Circuit}
 use Rattle.gs_top.specs.Command.{command_of, inputs_of}
 use Rattle.gs_top.specs.Kind.{SameRefusal}
 use Rattle.gs_top.specs.Stage.{Bytes, Stage}
+use Rattle.gs_top.specs.Texts.{netlist_line, sizes_text}
 use Rattle.gs_top.specs.declared.job.Job.{Job}
 use Rattle.gs_top.specs.declared.status.Status.{Status}
 
@@ -16,3 +26,8 @@ pub record IsDecided {V : Type 0} (work : Stage V) (b : Bytes) : Type 0 where
 
 abbrev pub EachJobIsDecided : Type 0
 EachJobIsDecided = (job : Job) (files : Files) → IsDecided (command_of job).work (inputs_of job files)
+
+-- the sizes that are written of a linked design are the netlist's: the name of each instance, in order, with the cell that it names
+abbrev pub EachSizeIsTheNetlists : Type 0
+EachSizeIsTheNetlists =
+    (c : Circuit) (l : Library) (w : List Wire) (k : Terms) (d : Design) → Linked c l w k (parts_of d) → sizes_text d (netlist_sizes d) ≡ flat_map netlist_line c.insts

@@ -9,18 +9,20 @@ use Rattle.gs_top.specs.Answer.{Seen}
 use Rattle.gs_top.specs.Kind.{Kind, Success, kind_of}
 use Rattle.gs_top.specs.declared.status.Input.{Input}
 use Rattle.gs_top.specs.declared.status.Input.TheVariants as input
-use Rattle.gs_top.specs.declared.status.LinkErr.{LinkErr}
-use Rattle.gs_top.specs.declared.status.LinkErr.TheVariants as link
+use Rattle.gs_survey.specs.declared.error.LinkErr.{LinkErr}
+use Rattle.gs_survey.specs.declared.error.LinkErr.TheVariants as link
 use Rattle.gs_top.specs.declared.status.Output.{Output}
 use Rattle.gs_top.specs.declared.status.Output.TheVariants.{Sizes, Report, Console}
 use Rattle.gs_top.specs.declared.status.TextWhy.{TextWhy}
-use Rattle.gs_top.specs.declared.status.TextWhy.TheVariants.{OpenString, OpenComment, TooDeep, BadPiece, TwoNames, NoEnd}
+use Rattle.gs_top.specs.declared.status.TextWhy.TheVariants.{OpenString, OpenComment, TooDeep, BadPiece, TwoNames, NoEnd, BadLine, Distributed, UnknownIndex, TwoNets, NotBuilt, TwoClocks, TwoValues, NoClock}
 use Rattle.gs_top.specs.declared.status.Status.{Status}
 use Rattle.gs_top.specs.declared.status.Status.TheVariants.{Written, Usage, ReadFault, TooLarge, BadText, BadLibrary, BadDesign, WriteFault, OutOfMemory}
 
 abbrev pub input_name : Input → List ℕ
 input_name input.Lib = codes "library"
 input_name input.Verilog = codes "netlist"
+input_name input.Spef = codes "spef"
+input_name input.Sdc = codes "sdc"
 
 -- each reason is its variant's name in lower case
 abbrev pub why_name : TextWhy → List ℕ
@@ -30,6 +32,14 @@ why_name TooDeep = codes "toodeep"
 why_name BadPiece = codes "badpiece"
 why_name TwoNames = codes "twonames"
 why_name NoEnd = codes "noend"
+why_name BadLine = codes "badline"
+why_name Distributed = codes "distributed"
+why_name UnknownIndex = codes "unknownindex"
+why_name TwoNets = codes "twonets"
+why_name NotBuilt = codes "notbuilt"
+why_name TwoClocks = codes "twoclocks"
+why_name TwoValues = codes "twovalues"
+why_name NoClock = codes "noclock"
 
 abbrev pub lib_name : LibErr → List ℕ
 lib_name (lib.Missing cell what) = codes "missing"
@@ -43,7 +53,16 @@ lib_name lib.Mem = codes "mem"
 
 abbrev pub link_name : LinkErr → List ℕ
 link_name (link.UnknownCell by) = codes "unknowncell"
+link_name (link.UnknownPin by pin) = codes "unknownpin"
+link_name (link.OpenPin inst pin) = codes "openpin"
+link_name (link.TwoDrivers net) = codes "twodrivers"
+link_name (link.Undriven net) = codes "undriven"
+link_name (link.UnknownPort name) = codes "unknownport"
+link_name (link.UnknownNet name) = codes "unknownnet"
+link_name (link.NoArc cell pin) = codes "noarc"
 link_name (link.TooMany what count) = codes "toomany"
+link_name (link.Loop cycle) = codes "loop"
+link_name link.Mem = codes "mem"
 
 -- no line says that the console failed
 abbrev pub write_line : Output → List ℕ

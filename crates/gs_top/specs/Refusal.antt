@@ -1,21 +1,21 @@
--- The refusals of the calls below as statuses: of a fetch, of the readers and of the sum.
-use Rattle.std.specs.Prelude.{◌≡◌, ℕ, ◌<◌, ◌⊎◌, List, [], ◌∷◌, length, zero, suc}
+-- The refusals of the calls below as statuses: of a fetch, of the readers and of the link.
 use Rattle.gs_lib.specs.declared.error.LibErr.{LibErr}
 use Rattle.gs_lib.specs.declared.error.LibErr.TheVariants as lib
 use Rattle.gs_libtree.specs.declared.error.LibTextErr.{LibTextErr}
 use Rattle.gs_libtree.specs.declared.error.LibTextErr.TheVariants as tree
-use Rattle.gs_report.specs.declared.error.SumErr.{SumErr}
-use Rattle.gs_report.specs.declared.error.SumErr.TheVariants as sum
+use Rattle.gs_survey.specs.declared.error.LinkErr.{LinkErr}
+use Rattle.gs_survey.specs.declared.error.LinkErr.TheVariants as link
+use Rattle.gs_sdc.specs.declared.error.SdcErr.{SdcErr}
+use Rattle.gs_sdc.specs.declared.error.SdcErr.TheVariants as sdc
 use Rattle.gs_shelf.specs.declared.whole.FetchErr.{FetchErr}
 use Rattle.gs_shelf.specs.declared.whole.FetchErr.TheVariants as fetch
+use Rattle.gs_spef.specs.declared.error.SpefErr.{SpefErr}
+use Rattle.gs_spef.specs.declared.error.SpefErr.TheVariants as spef
 use Rattle.gs_verilog.specs.declared.error.VerilogErr.{VerilogErr}
 use Rattle.gs_verilog.specs.declared.error.VerilogErr.TheVariants as verilog
-use Rattle.gs_verilog.specs.declared.parts.RawInst.{RawInst}
-use Rattle.gs_top.specs.declared.status.Counted.TheVariants.{Instances}
 use Rattle.gs_top.specs.declared.status.Input.{Input}
-use Rattle.gs_top.specs.declared.status.Input.TheVariants.{Lib, Verilog}
-use Rattle.gs_top.specs.declared.status.LinkErr.TheVariants.{UnknownCell, TooMany}
-use Rattle.gs_top.specs.declared.status.TextWhy.TheVariants.{OpenString, OpenComment, TooDeep, BadPiece, TwoNames, NoEnd}
+use Rattle.gs_top.specs.declared.status.Input.TheVariants.{Lib, Verilog, Spef, Sdc}
+use Rattle.gs_top.specs.declared.status.TextWhy.TheVariants.{OpenString, OpenComment, TooDeep, BadPiece, TwoNames, NoEnd, BadLine, Distributed, UnknownIndex, TwoNets, NotBuilt, TwoClocks, TwoValues, NoClock}
 use Rattle.gs_top.specs.declared.status.Status.{Status}
 use Rattle.gs_top.specs.declared.status.Status.TheVariants.{ReadFault, TooLarge, BadText, BadLibrary, BadDesign, OutOfMemory}
 
@@ -46,28 +46,39 @@ verilog_status (verilog.TwoNames i) = BadText Verilog TwoNames i
 verilog_status (verilog.NoEnd i) = BadText Verilog NoEnd i
 verilog_status verilog.Mem = OutOfMemory
 
--- the name of instance k
-abbrev pub inst_name_at : List RawInst → ℕ → List ℕ
-inst_name_at [] k = []
-inst_name_at (i ∷ is) zero = i.name
-inst_name_at (i ∷ is) (suc k) = inst_name_at is k
+-- of a SPEF text
+abbrev pub spef_status : SpefErr → Status
+spef_status (spef.BadLine i) = BadText Spef BadLine i
+spef_status (spef.Distributed i) = BadText Spef Distributed i
+spef_status (spef.UnknownIndex i) = BadText Spef UnknownIndex i
+spef_status (spef.TwoNets i) = BadText Spef TwoNets i
+spef_status spef.Mem = OutOfMemory
 
--- of the sum over these instances: the first whose cell the library lacks, by its name; or too many
-abbrev pub sum_status : List RawInst → SumErr → Status
-sum_status insts (sum.UnknownCell k) = BadDesign (UnknownCell (inst_name_at insts k))
-sum_status insts (sum.TooMany n) = BadDesign (TooMany Instances n)
+-- of an SDC text
+abbrev pub sdc_status : SdcErr → Status
+sdc_status (sdc.NotBuilt i) = BadText Sdc NotBuilt i
+sdc_status (sdc.BadLine i) = BadText Sdc BadLine i
+sdc_status (sdc.TwoClocks i) = BadText Sdc TwoClocks i
+sdc_status (sdc.TwoValues i) = BadText Sdc TwoValues i
+sdc_status (sdc.NoClock i) = BadText Sdc NoClock i
+sdc_status sdc.Mem = OutOfMemory
+
+-- of the four files together
+abbrev pub link_status : LinkErr → Status
+link_status (link.UnknownCell by) = BadDesign (link.UnknownCell by)
+link_status (link.UnknownPin by pin) = BadDesign (link.UnknownPin by pin)
+link_status (link.OpenPin inst pin) = BadDesign (link.OpenPin inst pin)
+link_status (link.TwoDrivers net) = BadDesign (link.TwoDrivers net)
+link_status (link.Undriven net) = BadDesign (link.Undriven net)
+link_status (link.UnknownPort name) = BadDesign (link.UnknownPort name)
+link_status (link.UnknownNet name) = BadDesign (link.UnknownNet name)
+link_status (link.NoArc cell pin) = BadDesign (link.NoArc cell pin)
+link_status (link.TooMany what count) = BadDesign (link.TooMany what count)
+link_status (link.Loop cycle) = BadDesign (link.Loop cycle)
+link_status link.Mem = OutOfMemory
 
 -- why a file was not fetched
 abbrev pub fetch_status : Input → FetchErr → Status
 fetch_status file fetch.Failed = ReadFault file
 fetch_status file fetch.TooLarge = TooLarge file
 fetch_status file fetch.Mem = OutOfMemory
-
--- the number of an instance that is refused is that of one
-abbrev pub IsPlaced : List RawInst → SumErr → Type 0
-IsPlaced insts (sum.UnknownCell k) = k < length insts
-IsPlaced insts (sum.TooMany n) = Unit {0}
-
--- this status, or memory ran out
-abbrev pub IsOrLost : Status → Status → Type 0
-IsOrLost wanted s = (s ≡ OutOfMemory) ⊎ (s ≡ wanted)

@@ -34,6 +34,8 @@ impl JobFiles for SizeJob {
         match file {
             Input::Lib => self.lib.as_str(),
             Input::Verilog => self.verilog.as_str(),
+            Input::Spef => self.spef.as_str(),
+            Input::Sdc => self.sdc.as_str(),
         }
     }
 

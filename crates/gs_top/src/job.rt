@@ -7,6 +7,8 @@ use crate::name::Name;
 pub struct SizeJob {
     pub lib: Name,
     pub verilog: Name,
+    pub spef: Name,
+    pub sdc: Name,
     pub sizes: Name,
     pub report: Name,
 }

@@ -13,7 +13,8 @@
 //! - `specs/Job.antt`: the form of the words, and the condition of a job. `specs/Stage.antt`: stages and how they follow one
 //!   another. `specs/Design.antt`: the stages of a design. `specs/Command.antt`: the commands. `specs/Texts.antt`: their texts.
 //! - `specs/Plan.antt`: what is stored, whole or in part. `specs/Kind.antt`: kinds of statuses, and when two refusals are one.
-//!   `specs/Run.antt`: what a run leaves, why, and what it says. `specs/Law.antt`: each job is decided by the bytes of its files.
+//!   `specs/Run.antt`: what a run leaves, why, and what it says. `specs/Law.antt`: each job is decided by the bytes of its files, and
+//!   the sizes that are written are the netlist's.
 //! - `specs/Line.antt`: the line of each status; `specs/Exit.antt`: its exit code; `specs/Refusal.antt`: the statuses of the
 //!   readers' refusals.
 //! - `specs/Answer.antt`, `specs/Store.antt`, `specs/Act.antt`: what the calls between answer, of which no public clause
@@ -26,11 +27,12 @@
 //! `Job` with its options, a `Command`, and two functions as in `size.rt`.
 #![tactic(auto)]
 
-mod design;
+mod constraints;
 mod fetch;
 mod files;
 mod job;
 mod law;
+mod leak;
 mod library;
 #[cfg(test)]
 mod library_tests;
@@ -42,18 +44,21 @@ mod options;
 mod plan;
 mod program;
 mod read;
+#[cfg(test)]
+mod samples;
 mod size;
 mod sizes;
 mod status;
 mod store;
 #[cfg(test)]
 mod tests;
+mod wires;
 mod words;
 
 pub use job::{Job, SizeJob};
-pub use law::each_job_is_decided;
+pub use law::{each_job_is_decided, each_size_is_the_netlists};
 pub use name::Name;
 pub use program::run;
 pub use read::{WordsErr, read_words};
-pub use status::{Counted, Input, LinkErr, Output, Status, TextWhy, exit_of};
+pub use status::{Input, Output, Status, TextWhy, exit_of};
 pub use words::Words;

@@ -2,8 +2,9 @@
 ghost use Rattle.std.specs.Prelude.{◌≡◌, ◌++◌, IfOk, OnOk, codes, decimal};
 ghost use Rattle.gs_top.specs.Line.{input_name, lib_name, line_of, link_name, why_name, write_line};
 
-use crate::status::{Input, LinkErr, Output, Status, TextWhy};
+use crate::status::{Input, Output, Status, TextWhy};
 use gs_lib::LibErr;
+use gs_link::LinkErr;
 use itoa::Buffer;
 use std::alloc::{AllocError, Global};
 
@@ -16,6 +17,8 @@ fn input_name(file: Input) -> &'static str
     match file {
         Input::Lib => "library",
         Input::Verilog => "netlist",
+        Input::Spef => "spef",
+        Input::Sdc => "sdc",
     }
 }
 
@@ -29,6 +32,14 @@ fn why_name(why: TextWhy) -> &'static str
         TextWhy::BadPiece => "badpiece",
         TextWhy::TwoNames => "twonames",
         TextWhy::NoEnd => "noend",
+        TextWhy::BadLine => "badline",
+        TextWhy::Distributed => "distributed",
+        TextWhy::UnknownIndex => "unknownindex",
+        TextWhy::TwoNets => "twonets",
+        TextWhy::NotBuilt => "notbuilt",
+        TextWhy::TwoClocks => "twoclocks",
+        TextWhy::TwoValues => "twovalues",
+        TextWhy::NoClock => "noclock",
     }
 }
 
@@ -52,7 +63,16 @@ fn link_name(error: &LinkErr) -> &'static str
 {
     match error {
         LinkErr::UnknownCell { .. } => "unknowncell",
+        LinkErr::UnknownPin { .. } => "unknownpin",
+        LinkErr::OpenPin { .. } => "openpin",
+        LinkErr::TwoDrivers { .. } => "twodrivers",
+        LinkErr::Undriven { .. } => "undriven",
+        LinkErr::UnknownPort { .. } => "unknownport",
+        LinkErr::UnknownNet { .. } => "unknownnet",
+        LinkErr::NoArc { .. } => "noarc",
         LinkErr::TooMany { .. } => "toomany",
+        LinkErr::Loop { .. } => "loop",
+        LinkErr::Mem => "mem",
     }
 }
 

@@ -1,78 +1,87 @@
-//! Linking a library and a netlist to a design.
-ghost use Rattle.std.specs.Prelude.{◌≡◌, ◌<◌, ◌^◌, IfOk, length};
-ghost use Rattle.gs_top.specs.Answer.{Settles, Works, seen};
-ghost use Rattle.gs_top.specs.Design.{IsLinked, LinkCause, design};
-ghost use Rattle.gs_top.specs.Refusal.{inst_name_at, sum_status, IsOrLost, IsPlaced};
-ghost use Rattle.gs_top.specs.declared.status.LinkErr.{LinkErr};
-ghost use Rattle.gs_top.specs.declared.status.Status.{Status};
+//! Linking the four files of a design.
+ghost use Rattle.std.specs.Prelude.{◌≡◌};
+ghost use Rattle.gs_design.specs.Parts.{parts_of};
+ghost use Rattle.gs_link.specs.Linked.{Linked};
+ghost use Rattle.gs_top.specs.Answer.{Settles, Works, seen, seen_as};
+ghost use Rattle.gs_top.specs.Design.{LinkCause, design, linked_with};
+ghost use Rattle.gs_top.specs.Refusal.{link_status};
 
-use crate::design::Design;
+use crate::constraints::load_constraints;
 use crate::files::JobFiles;
 use crate::library::load_library;
 use crate::netlist::load_netlist;
-use crate::status::{Counted, LinkErr, Status};
-use gs_design::Library;
-use gs_report::{SumErr, sum_leakage};
+use crate::status::Status;
+use crate::wires::load_wires;
+use gs_design::{Design, Library};
+use gs_link::{LinkErr, link};
+use gs_sdc::Constraints;
 use gs_shelf::Shelf;
-use gs_text::Name;
-use gs_verilog::{Netlist, RawInst};
+use gs_spef::Wires;
+use gs_verilog::Netlist;
 use std::alloc::Global;
 
-/// The name of instance `k`.
-fn name_at(insts: &[RawInst], k: usize) -> &[u8]
-    requires { k < length insts.now }
-    ensures { result.now ≡ inst_name_at insts.now k }
-{
-    insts[k].name.as_bytes()
-}
-
-/// The refusal of an instance whose cell the library lacks.
-fn unknown_cell(alloc: Global, name: &[u8]) -> Status
-    ensures { IsOrLost (Status.BadDesign (LinkErr.UnknownCell name.now)) result }
-{
-    match Name::copy_of(alloc, name) {
-        Ok(by) => Status::BadDesign(LinkErr::UnknownCell { by }),
-        Err(_) => Status::OutOfMemory,
-    }
-}
-
-/// Why there is no sum over these instances, as a status.
-fn sum_status(alloc: Global, insts: &[RawInst], error: SumErr) -> Status
-    requires { IsPlaced insts.now error }
-    ensures { IsOrLost (sum_status insts.now error) result }
+fn link_status(error: LinkErr) -> Status
+    ensures { result ≡ link_status error }
 {
     match error {
-        SumErr::UnknownCell { inst } => unknown_cell(alloc, name_at(insts, inst as usize)),
-        SumErr::TooMany { count } => Status::BadDesign(LinkErr::TooMany {
-            what: Counted::Instances,
-            count,
-        }),
+        LinkErr::Mem => Status::OutOfMemory,
+        LinkErr::UnknownCell { .. }
+        | LinkErr::UnknownPin { .. }
+        | LinkErr::OpenPin { .. }
+        | LinkErr::TwoDrivers { .. }
+        | LinkErr::Undriven { .. }
+        | LinkErr::UnknownPort { .. }
+        | LinkErr::UnknownNet { .. }
+        | LinkErr::NoArc { .. }
+        | LinkErr::TooMany { .. }
+        | LinkErr::Loop { .. } => Status::BadDesign(error),
     }
 }
 
-/// The design of a library and a netlist.
-fn link(alloc: Global, library: Library, netlist: Netlist) -> Result<Design, Status>
-    ensures settles { Settles (IsLinked library netlist) (LinkCause library netlist) result }
-    ensures few { IfOk result (λ d. length d.netlist.insts < 2 ^ 21) }
+/// The design of four parsed files.
+fn link_files(
+    alloc: Global,
+    library: Library,
+    netlist: Netlist,
+    wires: &Wires,
+    constraints: &Constraints,
+) -> Result<Design, Status>
+    ensures { Settles (Linked netlist library wires.now constraints.now) (LinkCause library netlist wires.now constraints.now) (seen_as parts_of result) }
 {
-    match sum_leakage(&netlist, &library) {
-        Ok(total) => Ok(Design {
-            library,
-            netlist,
-            total,
-        }),
-        Err(error) => Err(sum_status(alloc, netlist.insts(), error)),
+    match link(alloc, netlist, library, wires, constraints) {
+        Ok(design) => Ok(design),
+        Err(error) => Err(link_status(error)),
     }
 }
 
-/// Reads a job's library and netlist, and links them.
+/// Reads the wires and the constraints of a job, and links them with its library and its netlist.
+fn link_with<J: JobFiles, H: Shelf>(
+    alloc: Global,
+    shelf: &mut H,
+    job: &J,
+    library: Library,
+    netlist: Netlist,
+) -> Result<Design, Status>
+    ensures { Works H.tells (linked_with library netlist) (J.inputs job.now) (seen (H.files shelf.old) (H.said shelf.old) (H.faults shelf.old)) (seen (H.files shelf.new) (H.said shelf.new) (H.faults shelf.new)) (seen_as parts_of result) }
+{
+    let wires = match load_wires(alloc, shelf, job) {
+        Ok(wires) => wires,
+        Err(status) => return Err(status),
+    };
+    let constraints = match load_constraints(alloc, shelf, job, library.units) {
+        Ok(constraints) => constraints,
+        Err(status) => return Err(status),
+    };
+    link_files(alloc, library, netlist, &wires, &constraints)
+}
+
+/// Reads a job's four files in their order, and links them.
 pub(crate) fn load_design<J: JobFiles, H: Shelf>(
     alloc: Global,
     shelf: &mut H,
     job: &J,
 ) -> Result<Design, Status>
-    ensures work { Works H.tells design (J.inputs job.now) (seen (H.files shelf.old) (H.said shelf.old) (H.faults shelf.old)) (seen (H.files shelf.new) (H.said shelf.new) (H.faults shelf.new)) result }
-    ensures few { IfOk result (λ d. length d.netlist.insts < 2 ^ 21) }
+    ensures { Works H.tells design (J.inputs job.now) (seen (H.files shelf.old) (H.said shelf.old) (H.faults shelf.old)) (seen (H.files shelf.new) (H.said shelf.new) (H.faults shelf.new)) (seen_as parts_of result) }
 {
     let library = match load_library(alloc, shelf, job) {
         Ok(library) => library,
@@ -82,5 +91,5 @@ pub(crate) fn load_design<J: JobFiles, H: Shelf>(
         Ok(netlist) => netlist,
         Err(status) => return Err(status),
     };
-    link(alloc, library, netlist)
+    link_with(alloc, shelf, job, library, netlist)
 }

@@ -1,6 +1,7 @@
 //! Reading a command's words.
 ghost use Rattle.std.specs.Prelude.{◌≡◌, true, IfOk, map, string_bytes};
 ghost use Rattle.gs_top.specs.Job.{job_of, is_good, is_size, size_of, size_with, IsRead};
+ghost use Rattle.gs_top.specs.declared.job.Job.{Job};
 
 use crate::job::{Job, SizeJob};
 use crate::name::Name;
@@ -25,22 +26,42 @@ fn copy_names(alloc: Global, words: &[String]) -> Result<SizeJob, Mem>
     Ok(SizeJob {
         lib: Name::copy_of(alloc, value_of(words, "--lib"))?,
         verilog: Name::copy_of(alloc, value_of(words, "--verilog"))?,
+        spef: Name::copy_of(alloc, value_of(words, "--spef"))?,
+        sdc: Name::copy_of(alloc, value_of(words, "--sdc"))?,
         sizes: Name::copy_of(alloc, value_of(words, "--sizes"))?,
         report: Name::copy_of(alloc, value_of(words, "--report"))?,
     })
+}
+
+/// Whether the values of the options of `size` are names of files, no two the same.
+fn has_names(words: &[String]) -> bool
+    ensures { result ≡ is_good (Job.Size (size_with (map string_bytes words.now))) }
+{
+    are_names(&[
+        value_of(words, "--lib"),
+        value_of(words, "--verilog"),
+        value_of(words, "--spef"),
+        value_of(words, "--sdc"),
+        value_of(words, "--sizes"),
+        value_of(words, "--report"),
+    ])
 }
 
 /// Whether these are the words after `size` of a good job.
 fn is_size(words: &[String]) -> bool
     ensures { result ≡ is_size (map string_bytes words.now) }
 {
-    are_given(&["--lib", "--verilog", "--sizes", "--report"], words)
-        && are_names(&[
-            value_of(words, "--lib"),
-            value_of(words, "--verilog"),
-            value_of(words, "--sizes"),
-            value_of(words, "--report"),
-        ])
+    are_given(
+        &[
+            "--lib",
+            "--verilog",
+            "--spef",
+            "--sdc",
+            "--sizes",
+            "--report",
+        ],
+        words,
+    ) && has_names(words)
 }
 
 /// The job of the words after `size`.

@@ -1,33 +1,32 @@
 //! The command `size`: the sizes of all instances, and a report.
-ghost use Rattle.std.specs.Prelude.{◌≡◌, ◌<◌, ◌^◌, IfOk, length};
+ghost use Rattle.std.specs.Prelude.{◌≡◌, IfOk};
 ghost use Rattle.gs_top.specs.Answer.{seen};
 ghost use Rattle.gs_top.specs.Command.{Prepares, command_of, size_plan};
 ghost use Rattle.gs_top.specs.Job.{input_of};
 ghost use Rattle.gs_top.specs.declared.job.Job.{Job};
 
-use crate::design::Design;
 use crate::job::SizeJob;
+use crate::leak::netlist_leakage;
 use crate::link::load_design;
 use crate::plan::{Plan, Texts, add_text};
 use crate::sizes::sizes_text;
 use crate::status::{Output, Status};
+use gs_design::Design;
 use gs_quantity::Mem;
 use gs_report::write_leak_report;
 use gs_shelf::Shelf;
 use std::alloc::Global;
 
-/// The texts of a design.
+/// The texts of a design at the sizes of its netlist.
 fn plan_size(alloc: Global, design: &Design) -> Result<Plan, Mem>
-    requires { length design.now.netlist.insts < 2 ^ 21 }
     ensures { IfOk result (λ plan. plan ≡ size_plan design.now) }
 {
-    let insts = design.netlist.insts();
-    let sizes = sizes_text(alloc, insts)?;
-    let report = write_leak_report(alloc, design.total, &design.library.leak_unit)?;
+    let sizes = sizes_text(alloc, design)?;
+    let report = write_leak_report(alloc, netlist_leakage(design), &design.leak_unit)?;
     let mut texts = Texts::empty(alloc);
     add_text(&mut texts, Output::Sizes, sizes)?;
     add_text(&mut texts, Output::Report, report)?;
-    let instances = insts.len() as u32;
+    let instances = design.insts.len() as u32;
     Ok(Plan {
         texts,
         success: Status::Written { instances },

@@ -3,7 +3,7 @@ ghost use Rattle.std.specs.Prelude.{◌≡◌};
 ghost use Rattle.gs_top.specs.Exit.{exit_of};
 
 use gs_lib::LibErr;
-use gs_text::Name;
+use gs_link::LinkErr;
 
 /// A file that a command reads.
 #[derive(Clone, Copy, Debug, PartialEq, Eq)]
@@ -12,6 +12,10 @@ pub enum Input {
     Lib,
     /// The netlist.
     Verilog,
+    /// The wires, in SPEF.
+    Spef,
+    /// The constraints, in SDC.
+    Sdc,
 }
 
 /// What a command writes.
@@ -40,28 +44,26 @@ pub enum TextWhy {
     TwoNames,
     /// The pieces end too early.
     NoEnd,
-}
-
-/// What there are too many of. Only instances are counted so far.
-#[derive(Clone, Copy, Debug, PartialEq, Eq)]
-pub enum Counted {
-    Instances,
-    Nets,
-    /// Connected pins.
-    Pins,
-}
-
-/// Why a netlist and a library make no design.
-#[derive(Debug, PartialEq, Eq, Drop)]
-pub enum LinkErr {
-    /// The instance `by` names a cell that the library lacks. It is the first such instance.
-    UnknownCell { by: Name },
-    /// The library has the cell of every instance, and there are `count` of these: `2^21` instances or more.
-    TooMany { what: Counted, count: u64 },
+    /// A line of SPEF, or a command of SDC, that is not of its form.
+    BadLine,
+    /// A line of SPEF that gives resistances.
+    Distributed,
+    /// A line of SPEF with an index that no line before it maps.
+    UnknownIndex,
+    /// A second block of a net.
+    TwoNets,
+    /// A command of SDC that is not built yet.
+    NotBuilt,
+    /// A second clock.
+    TwoClocks,
+    /// A second value of one kind for a port.
+    TwoValues,
+    /// No clock.
+    NoClock,
 }
 
 /// How a command ended.
-#[derive(Debug, PartialEq, Eq, Drop)]
+#[derive(Debug, Drop)]
 pub enum Status {
     /// The sizes of so many instances were written, and the report.
     Written {
@@ -77,8 +79,8 @@ pub enum Status {
     TooLarge {
         file: Input,
     },
-    /// The file's text is refused. `place` counts bytes from 0 for `OpenString` and `OpenComment`, pieces from 0 for the
-    /// others; it is the number of pieces where the text ends too early.
+    /// The file's text is refused. `place` counts bytes from 0 for `OpenString` and `OpenComment`, lines from 1 for SPEF and SDC (of
+    /// `NoClock` it is the number of lines), and pieces from 0 for the others; it is the number of pieces where the text ends too early.
     BadText {
         file: Input,
         why: TextWhy,
@@ -86,7 +88,7 @@ pub enum Status {
     },
     /// The library's text has its form, and is refused for what it says; never for want of memory.
     BadLibrary(LibErr),
-    /// The netlist and the library make no design.
+    /// The four files make no design; never for want of memory.
     BadDesign(LinkErr),
     /// The file could not be written, or the line of a success could not be said.
     WriteFault {

@@ -1,34 +1,34 @@
+//! Whole runs: what is said, stored and answered, with each file refused and each call of the shelf failing.
+
 ghost use Rattle.std.specs.Prelude.{◌≤◌};
 
 use crate::program::run;
-use crate::status::{Input, LinkErr, Output, Status, TextWhy, exit_of};
+use crate::samples::{
+    BARE_CLOCK, CHAIN, CHAIN_REPORT, CHAIN_SIZES, CHAIN_TEXTS, CLOCK, PATH, PATH_LIMITS,
+    PATH_WIRES, ROWS, Texts, files_with, form_of, size_words, words_of,
+};
+use crate::status::{Input, Output, Status, TextWhy, exit_of};
 use crate::words::Words;
 use gs_lib::LibErr;
-use gs_quantity::Mem;
+use gs_link::LinkErr;
 use gs_shelf::{Bytes, Failures, FileList, MemShelf, NeverFails, Numbers};
 use std::alloc::{AllocError, Global};
 use std::test::Fail;
 
-/// Inverters of two sizes, without timing.
-const CELLS: &str =
-    "library (l) { time_unit : \"1ps\"; capacitive_load_unit (1, ff); leakage_power_unit : \"1uW\";
-cell (I1) { cell_leakage_power : 1;
-pin (a) { direction : input; capacitance : 1; } pin (o) { direction : output; function : \"!a\"; } }
-cell (I2) { cell_leakage_power : 3;
-pin (a) { direction : input; capacitance : 2; } pin (o) { direction : output; function : \"!a\"; } } }";
-
-/// One of them alone.
+/// An inverter alone, without a unit of leakage.
 const SMALL_CELL: &str = "library (l) { time_unit : \"1ps\"; capacitive_load_unit (1, ff);
 cell (I1) { cell_leakage_power : 1;
-pin (a) { direction : input; capacitance : 1; } pin (o) { direction : output; function : \"!a\"; } } }";
+pin (a) { direction : input; capacitance : 1; } pin (o) { direction : output; function : \"!a\"; timing () { related_pin : \"a\"; timing_sense : negative_unate; cell_rise (scalar) { values (\"4\"); } cell_fall (scalar) { values (\"4\"); } rise_transition (scalar) { values (\"2\"); } fall_transition (scalar) { values (\"2\"); } } } } }";
 
-/// A library without cells and without a unit of leakage.
-const NO_CELLS: &str = "library (l) { time_unit : \"1ps\"; capacitive_load_unit (1, ff); }";
-
-/// Leakages of less than a millionth are rounded.
-const LITTLE: &str = "library (r) { time_unit : \"1ps\"; capacitive_load_unit (1, ff);
+/// A leakage of less than a millionth is rounded.
+const LITTLE: &str = "library (l) { time_unit : \"1ps\"; capacitive_load_unit (1, ff);
 cell (I2) { cell_leakage_power : 0.0000005;
-pin (a) { direction : input; capacitance : 2; } pin (o) { direction : output; function : \"!a\"; } } }";
+pin (a) { direction : input; capacitance : 1; } pin (o) { direction : output; function : \"!a\"; timing () { related_pin : \"a\"; timing_sense : negative_unate; cell_rise (scalar) { values (\"4\"); } cell_fall (scalar) { values (\"4\"); } rise_transition (scalar) { values (\"2\"); } fall_transition (scalar) { values (\"2\"); } } } } }";
+
+/// An inverter without an arc.
+const NO_ARC: &str = "library (l) { time_unit : \"1ps\"; capacitive_load_unit (1, ff);
+cell (I2) { cell_leakage_power : 1;
+pin (a) { direction : input; capacitance : 1; } pin (o) { direction : output; function : \"!a\"; } } }";
 
 /// Two cells of one name.
 const TWO_CELLS: &str = "library (l) { time_unit : \"1ps\"; capacitive_load_unit (1, ff);
@@ -53,53 +53,15 @@ pin (o) { direction : output; function : \"!a\"; timing () { related_pin : \"a\"
 cell_rise (t) { values (\"4\"); } cell_fall (scalar) { values (\"4\"); }
 rise_transition (scalar) { values (\"2\"); } fall_transition (scalar) { values (\"2\"); } } } } }";
 
-/// A chain of two inverters.
-const CHAIN: &str =
-    "module c (x, z); input x; output z; I2 g1 (.a(x), .o(n1)); I2 g2 (.a(n1), .o(z)); endmodule";
+/// A latch of two gates, which is a cycle.
+const LATCH: &str = "module l (s, r, q1); input s, r; output q1;
+N1 g1 (.a(s), .b(q2), .o(q1)); N1 g2 (.a(r), .b(q1), .o(q2)); endmodule";
 
-const CHAIN_SIZES: &str = "g1 I2\ng2 I2\n";
-
-const CHAIN_REPORT: &str = "gate-sizing-report 1\nleakage 6.000000 1uW\n";
+/// The same with a flip-flop in place of the second gate.
+const CUT_LATCH: &str = "module l (s, r, q1); input s, r; output q1;
+N1 g1 (.a(s), .b(q2), .o(q1)); F1 g2 (.ck(s), .d(q1), .q(q2)); endmodule";
 
 const EMPTY: &str = "module e (a); input a; endmodule";
-
-fn words_of(alloc: Global, texts: &[&str]) -> Result<Words, Mem> {
-    let mut words = Words::new(alloc);
-    for text in texts {
-        words.add(text)?;
-    }
-    Ok(words)
-}
-
-/// The words of a command in the form of `size`, with these files.
-fn form_of(
-    alloc: Global,
-    command: &str,
-    inputs: [&str; 2],
-    outputs: [&str; 2],
-) -> Result<Words, Mem> {
-    let [lib, verilog] = inputs;
-    let [sizes, report] = outputs;
-    let mut words = words_of(alloc, &[command, "--lib", lib, "--verilog", verilog])?;
-    for text in ["--sizes", sizes, "--report", report] {
-        words.add(text)?;
-    }
-    Ok(words)
-}
-
-fn size_words(alloc: Global) -> Result<Words, Mem> {
-    form_of(alloc, "size", ["n.lib", "n.v"], ["n.sizes", "n.rpt"])
-}
-
-/// The library as `n.lib`, the netlist as `n.v`, and two files from before.
-fn files_with(alloc: Global, library: &str, netlist: &str) -> Result<FileList, AllocError> {
-    let mut files = FileList::new(alloc);
-    files.put(alloc, b"n.lib", library.as_bytes())?;
-    files.put(alloc, b"n.v", netlist.as_bytes())?;
-    files.put(alloc, b"n.sizes", b"before")?;
-    files.put(alloc, b"n.rpt", b"earlier")?;
-    Ok(files)
-}
 
 fn shelf_with(
     alloc: Global,
@@ -122,29 +84,26 @@ fn shelf_with(
 /// Files that a run reads, and what stands after it.
 #[derive(Clone, Copy)]
 struct Row {
-    library: &'static str,
-    netlist: &'static str,
+    texts: Texts,
     exit: u8,
     said: &'static str,
     sizes: &'static str,
     report: &'static str,
 }
 
-fn done(library: &'static str, netlist: &'static str, said: &'static str) -> Row {
+fn done(texts: Texts, said: &'static str, sizes: &'static str, report: &'static str) -> Row {
     Row {
-        library,
-        netlist,
+        texts,
         exit: 0,
         said,
-        sizes: "",
-        report: "",
+        sizes,
+        report,
     }
 }
 
-fn refused(library: &'static str, netlist: &'static str, said: &'static str) -> Row {
+fn refused(texts: Texts, said: &'static str) -> Row {
     Row {
-        library,
-        netlist,
+        texts,
         exit: 3,
         said,
         sizes: "before",
@@ -152,86 +111,224 @@ fn refused(library: &'static str, netlist: &'static str, said: &'static str) -> 
     }
 }
 
-fn successes() -> [Row; 3] {
+fn of_library(library: &'static str) -> Texts {
+    Texts {
+        library,
+        ..CHAIN_TEXTS
+    }
+}
+
+fn of_netlist(netlist: &'static str) -> Texts {
+    Texts {
+        netlist,
+        sdc: BARE_CLOCK,
+        ..CHAIN_TEXTS
+    }
+}
+
+fn of_wires(spef: &'static str) -> Texts {
+    Texts {
+        spef,
+        ..CHAIN_TEXTS
+    }
+}
+
+fn of_limits(sdc: &'static str) -> Texts {
+    Texts { sdc, ..CHAIN_TEXTS }
+}
+
+/// The path through a flip-flop.
+fn path() -> Texts {
+    Texts {
+        library: ROWS,
+        netlist: PATH,
+        spef: PATH_WIRES,
+        sdc: PATH_LIMITS,
+    }
+}
+
+fn successes() -> [Row; 5] {
     [
-        Row {
-            sizes: CHAIN_SIZES,
-            report: CHAIN_REPORT,
-            ..done(CELLS, CHAIN, "written 2\n")
-        },
-        Row {
-            report: "gate-sizing-report 1\nleakage 0.000000 1uW\n",
-            ..done(CELLS, EMPTY, "written 0\n")
-        },
-        Row {
-            sizes: CHAIN_SIZES,
-            report: "gate-sizing-report 1\nleakage 0.000002\n",
-            ..done(LITTLE, CHAIN, "written 2\n")
-        },
+        done(CHAIN_TEXTS, "written 2\n", CHAIN_SIZES, CHAIN_REPORT),
+        done(
+            of_netlist(EMPTY),
+            "written 0\n",
+            "",
+            "gate-sizing-report 1\nleakage 0.000000 1uW\n",
+        ),
+        done(
+            of_library(LITTLE),
+            "written 2\n",
+            CHAIN_SIZES,
+            "gate-sizing-report 1\nleakage 0.000002\n",
+        ),
+        done(
+            path(),
+            "written 5\n",
+            "g1 N2\ng2 I2\nf1 F1\ng3 I2\ng4 I2\n",
+            "gate-sizing-report 1\nleakage 18.000000 1uW\n",
+        ),
+        done(
+            of_netlist(CUT_LATCH),
+            "written 2\n",
+            "g1 N1\ng2 F1\n",
+            "gate-sizing-report 1\nleakage 6.000000 1uW\n",
+        ),
     ]
 }
 
 fn refusals_of_netlists() -> [Row; 4] {
     [
         refused(
-            CELLS,
-            "module m (a); input 1; endmodule",
+            of_netlist("module m (a); input 1; endmodule"),
             "bad netlist badpiece at 7\n",
         ),
-        refused(CELLS, "module m (a); input a", "bad netlist noend at 8\n"),
         refused(
-            CELLS,
-            "module m; input a, a; endmodule",
+            of_netlist("module m (a); input a"),
+            "bad netlist noend at 8\n",
+        ),
+        refused(
+            of_netlist("module m; input a, a; endmodule"),
             "bad netlist twonames at 6\n",
         ),
-        refused(CELLS, "module m; /* x", "bad netlist opencomment at 10\n"),
+        refused(
+            of_netlist("module m; /* x"),
+            "bad netlist opencomment at 10\n",
+        ),
     ]
 }
 
 fn refusals_of_library_texts() -> [Row; 3] {
     [
-        refused("library (l) { a : ; }", "", "bad library badpiece at 7\n"),
-        refused("library (l) { \"", "", "bad library openstring at 14\n"),
-        refused("library /* (l)", "", "bad library opencomment at 8\n"),
+        refused(
+            of_library("library (l) { a : ; }"),
+            "bad library badpiece at 7\n",
+        ),
+        refused(
+            of_library("library (l) { \""),
+            "bad library openstring at 14\n",
+        ),
+        refused(
+            of_library("library /* (l)"),
+            "bad library opencomment at 8\n",
+        ),
+    ]
+}
+
+fn refusals_of_wires() -> [Row; 4] {
+    [
+        refused(
+            of_wires("*C_UNIT 1 FF\n*D_NET n1 1\n*CONN"),
+            "bad spef badline at 3\n",
+        ),
+        refused(
+            of_wires("*C_UNIT 1 FF\n*D_NET n1 1\n*RES\n1 n1:1 n1:2 0.5\n*END\n"),
+            "bad spef distributed at 4\n",
+        ),
+        refused(
+            of_wires("*C_UNIT 1 FF\n*D_NET *5 1\n*END\n"),
+            "bad spef unknownindex at 2\n",
+        ),
+        refused(
+            of_wires("*C_UNIT 1 FF\n*D_NET n1 1\n*END\n*D_NET n1 1\n*END\n"),
+            "bad spef twonets at 4\n",
+        ),
+    ]
+}
+
+fn refusals_of_limits() -> [Row; 5] {
+    [
+        refused(of_limits(""), "bad sdc noclock at 0\n"),
+        refused(
+            of_limits("create_clock -period x\n"),
+            "bad sdc badline at 1\n",
+        ),
+        refused(
+            of_limits("create_clock -name k -period 100\ncreate_clock -name l -period 100\n"),
+            "bad sdc twoclocks at 2\n",
+        ),
+        refused(
+            of_limits(
+                "create_clock -name k -period 100\nset_load -pin_load 1 [get_ports z]\nset_load -pin_load 2 [get_ports z]\n",
+            ),
+            "bad sdc twovalues at 3\n",
+        ),
+        refused(
+            of_limits("set_max_area 5\ncreate_clock -name k -period 100\n"),
+            "bad sdc notbuilt at 1\n",
+        ),
     ]
 }
 
 fn refusals_of_libraries() -> [Row; 8] {
     [
-        refused("cells (l) { }", "", "bad library missing\n"),
+        refused(of_library("cells (l) { }"), "bad library missing\n"),
         refused(
-            "library (r) { cell (I2) { cell_leakage_power : 0.0000005 ; } }",
-            CHAIN,
+            of_library("library (r) { cell (I2) { cell_leakage_power : 0.0000005 ; } }"),
             "bad library nounit\n",
         ),
         refused(
-            "library (l) { time_unit : \"2ps\"; capacitive_load_unit (1, ff); }",
-            "",
+            of_library("library (l) { time_unit : \"2ps\"; capacitive_load_unit (1, ff); }"),
             "bad library badunit\n",
         ),
         refused(
-            "library (l) { time_unit : \"1ps\"; capacitive_load_unit (1, ff); default_max_transition : -1; }",
-            "",
+            of_library(
+                "library (l) { time_unit : \"1ps\"; capacitive_load_unit (1, ff); default_max_transition : -1; }",
+            ),
             "bad library badnumber\n",
         ),
-        refused(TWO_CELLS, "", "bad library twocells\n"),
-        refused(NO_LEAKAGE, "", "bad library missing\n"),
-        refused(BAD_LEAKAGE, "", "bad library badnumber\n"),
-        refused(BAD_TABLE, "", "bad library badtable\n"),
+        refused(of_library(TWO_CELLS), "bad library twocells\n"),
+        refused(of_library(NO_LEAKAGE), "bad library missing\n"),
+        refused(of_library(BAD_LEAKAGE), "bad library badnumber\n"),
+        refused(of_library(BAD_TABLE), "bad library badtable\n"),
     ]
 }
 
-fn refusals_of_designs() -> [Row; 2] {
+fn refusals_of_instances() -> [Row; 5] {
     [
-        refused(NO_CELLS, CHAIN, "bad design unknowncell\n"),
-        refused(SMALL_CELL, CHAIN, "bad design unknowncell\n"),
+        refused(of_library(SMALL_CELL), "bad design unknowncell\n"),
+        refused(
+            of_netlist(
+                "module b (x, z); input x; output z; I2 g1 (.a(x), .b(x), .o(z)); endmodule",
+            ),
+            "bad design unknownpin\n",
+        ),
+        refused(
+            of_netlist("module b (x); input x; I2 g1 (.a(x)); endmodule"),
+            "bad design openpin\n",
+        ),
+        refused(of_library(NO_ARC), "bad design noarc\n"),
+        refused(of_netlist(LATCH), "bad design loop\n"),
+    ]
+}
+
+fn refusals_of_nets() -> [Row; 4] {
+    [
+        refused(
+            of_netlist(
+                "module b (x, z); input x; output z; I2 g1 (.a(x), .o(z)); I2 g2 (.a(x), .o(z)); endmodule",
+            ),
+            "bad design twodrivers\n",
+        ),
+        refused(
+            of_netlist("module b (x, z); input x; output z; I2 g1 (.a(n), .o(z)); endmodule"),
+            "bad design undriven\n",
+        ),
+        refused(
+            of_wires("*C_UNIT 1 FF\n*D_NET q7 1\n*END\n"),
+            "bad design unknownnet\n",
+        ),
+        refused(
+            of_limits("create_clock -name k -period 100\nset_output_delay 1 [get_ports x]\n"),
+            "bad design unknownport\n",
+        ),
     ]
 }
 
 /// Whether the run of a row ends as the row says, over a shelf without faults.
 fn ends_so(alloc: Global, row: Row) -> Result<bool, Fail> {
     let mut shelf = NeverFails {
-        files: files_with(alloc, row.library, row.netlist)?,
+        files: files_with(alloc, row.texts)?,
         said: Bytes::empty(alloc),
     };
     let status = run(&(), alloc, &size_words(alloc)?, &mut shelf);
@@ -250,25 +347,49 @@ fn each_success(rt: HostRuntime) -> Result<(), Fail> {
 }
 
 #[test]
-fn each_refusal(rt: HostRuntime) -> Result<(), Fail> {
+fn each_refusal_of_a_text(rt: HostRuntime) -> Result<(), Fail> {
     for row in refusals_of_netlists() {
         assert!(rt; ends_so(rt.alloc(), row)?, "{}", row.said);
     }
     for row in refusals_of_library_texts() {
         assert!(rt; ends_so(rt.alloc(), row)?, "{}", row.said);
     }
+    Ok(())
+}
+
+#[test]
+fn each_refusal_of_lines(rt: HostRuntime) -> Result<(), Fail> {
+    for row in refusals_of_wires() {
+        assert!(rt; ends_so(rt.alloc(), row)?, "{}", row.said);
+    }
+    for row in refusals_of_limits() {
+        assert!(rt; ends_so(rt.alloc(), row)?, "{}", row.said);
+    }
+    Ok(())
+}
+
+#[test]
+fn each_refusal_of_a_library(rt: HostRuntime) -> Result<(), Fail> {
     for row in refusals_of_libraries() {
         assert!(rt; ends_so(rt.alloc(), row)?, "{}", row.said);
     }
-    for row in refusals_of_designs() {
+    Ok(())
+}
+
+#[test]
+fn each_refusal_of_a_design(rt: HostRuntime) -> Result<(), Fail> {
+    for row in refusals_of_instances() {
+        assert!(rt; ends_so(rt.alloc(), row)?, "{}", row.said);
+    }
+    for row in refusals_of_nets() {
         assert!(rt; ends_so(rt.alloc(), row)?, "{}", row.said);
     }
     Ok(())
 }
 
 /// The status of a run over a shelf of one-byte fetches.
-fn status_of(alloc: Global, library: &str, netlist: &str) -> Result<Status, Fail> {
-    let mut shelf = shelf_with(alloc, files_with(alloc, library, netlist)?, &[], 1)?;
+fn status_of(alloc: Global, texts: Texts) -> Result<Status, Fail> {
+    let mut shelf = shelf_with(alloc, files_with(alloc, texts)?, &[], 1)?;
     Ok(run(&(), alloc, &size_words(alloc)?, &mut shelf))
 }
 
@@ -280,12 +401,20 @@ fn is_unknown_cell_of(status: &Status, name: &[u8]) -> bool {
     }
 }
 
+/// Whether the wire of a net of this name is refused.
+fn is_unknown_net(status: &Status, name: &[u8]) -> bool {
+    match status {
+        Status::BadDesign(LinkErr::UnknownNet { name: net }) => net.is(name),
+        _ => false,
+    }
+}
+
 #[test]
 fn statuses_byte_by_byte(rt: HostRuntime) -> Result<(), Fail> {
     let alloc = rt.alloc();
-    let written = status_of(alloc, CELLS, CHAIN)?;
+    let written = status_of(alloc, CHAIN_TEXTS)?;
     assert!(rt; matches!(written, Status::Written { instances: 2 }));
-    let text = status_of(alloc, "library (l) {", CHAIN)?;
+    let text = status_of(alloc, of_library("library (l) {"))?;
     assert!(rt;
         matches!(
             text,
@@ -296,16 +425,18 @@ fn statuses_byte_by_byte(rt: HostRuntime) -> Result<(), Fail> {
             }
         )
     );
-    let library = status_of(alloc, "l (l) {}", CHAIN)?;
+    let library = status_of(alloc, of_library("l (l) {}"))?;
     assert!(rt; matches!(library, Status::BadLibrary(LibErr::Missing { .. })));
-    let unit = status_of(alloc, "library (l) {}", CHAIN)?;
+    let unit = status_of(alloc, of_library("library (l) {}"))?;
     assert!(rt; matches!(unit, Status::BadLibrary(LibErr::NoUnit)));
-    let design = status_of(alloc, NO_CELLS, CHAIN)?;
-    assert!(rt; is_unknown_cell_of(&design, b"g1"));
+    let cell = status_of(alloc, of_library(SMALL_CELL))?;
+    assert!(rt; is_unknown_cell_of(&cell, b"g1"));
+    let net = status_of(alloc, of_wires("*C_UNIT 1 FF\n*D_NET q7 1\n*END\n"))?;
+    assert!(rt; is_unknown_net(&net, b"q7"));
     Ok(())
 }
 
-/// What stands after a run whose call number `k` fails.
+/// What stands after a run on the chain whose call number `k` fails.
 fn fails_so(
     alloc: Global,
     k: u64,
@@ -313,7 +444,7 @@ fn fails_so(
     sizes: &str,
     report: &str,
 ) -> Result<Option<Status>, Fail> {
-    let mut shelf = shelf_with(alloc, files_with(alloc, CELLS, CHAIN)?, &[k], 1000)?;
+    let mut shelf = shelf_with(alloc, files_with(alloc, CHAIN_TEXTS)?, &[k], 100_000)?;
     let status = run(&(), alloc, &size_words(alloc)?, &mut shelf);
     let stands = shelf.said.as_slice() == said.as_bytes()
         && shelf.files.get(b"n.sizes") == Some(sizes.as_bytes())
@@ -321,30 +452,28 @@ fn fails_so(
     Ok(if stands { Some(status) } else { None })
 }
 
-#[test]
-fn each_fetch_of_the_library_fails(rt: HostRuntime) -> Result<(), Fail> {
-    for k in [0, 1] {
-        let ended = fails_so(rt.alloc(), k, "cannot read library\n", "before", "earlier")?;
-        assert!(rt;
-            matches!(ended, Some(Status::ReadFault { file: Input::Lib })),
-            "failing {k}"
-        );
-    }
-    Ok(())
+/// Whether a failing call of this number is told as a file that could not be read.
+fn is_unread(alloc: Global, k: u64, said: &str, wanted: Input) -> Result<bool, Fail> {
+    let ended = fails_so(alloc, k, said, "before", "earlier")?;
+    Ok(match ended {
+        Some(Status::ReadFault { file }) => file == wanted,
+        _ => false,
+    })
 }
 
 #[test]
-fn each_fetch_of_the_netlist_fails(rt: HostRuntime) -> Result<(), Fail> {
-    for k in [2, 3] {
-        let ended = fails_so(rt.alloc(), k, "cannot read netlist\n", "before", "earlier")?;
+fn each_fetch_fails(rt: HostRuntime) -> Result<(), Fail> {
+    let rows = [
+        (0, "cannot read library\n", Input::Lib),
+        (2, "cannot read netlist\n", Input::Verilog),
+        (4, "cannot read spef\n", Input::Spef),
+        (6, "cannot read sdc\n", Input::Sdc),
+    ];
+    for (k, said, file) in rows {
+        assert!(rt; is_unread(rt.alloc(), k, said, file)?, "failing {k}");
         assert!(rt;
-            matches!(
-                ended,
-                Some(Status::ReadFault {
-                    file: Input::Verilog
-                })
-            ),
-            "failing {k}"
+            is_unread(rt.alloc(), k + 1, said, file)?,
+            "failing one later"
         );
     }
     Ok(())
@@ -353,7 +482,7 @@ fn each_fetch_of_the_netlist_fails(rt: HostRuntime) -> Result<(), Fail> {
 #[test]
 fn each_store_fails(rt: HostRuntime) -> Result<(), Fail> {
     let alloc = rt.alloc();
-    let sizes = fails_so(alloc, 4, "cannot write sizes\n", "before", "earlier")?;
+    let sizes = fails_so(alloc, 8, "cannot write sizes\n", "before", "earlier")?;
     assert!(rt;
         matches!(
             sizes,
@@ -362,7 +491,7 @@ fn each_store_fails(rt: HostRuntime) -> Result<(), Fail> {
             })
         )
     );
-    let report = fails_so(alloc, 5, "cannot write report\n", CHAIN_SIZES, "earlier")?;
+    let report = fails_so(alloc, 9, "cannot write report\n", CHAIN_SIZES, "earlier")?;
     assert!(rt;
         matches!(
             report,
@@ -377,7 +506,7 @@ fn each_store_fails(rt: HostRuntime) -> Result<(), Fail> {
 #[test]
 fn the_line_fails(rt: HostRuntime) -> Result<(), Fail> {
     let alloc = rt.alloc();
-    let console = fails_so(alloc, 6, "", CHAIN_SIZES, CHAIN_REPORT)?;
+    let console = fails_so(alloc, 10, "", CHAIN_SIZES, CHAIN_REPORT)?;
     assert!(rt;
         matches!(
             console,
@@ -386,19 +515,31 @@ fn the_line_fails(rt: HostRuntime) -> Result<(), Fail> {
             })
         )
     );
-    let whole = fails_so(alloc, 7, "written 2\n", CHAIN_SIZES, CHAIN_REPORT)?;
+    let whole = fails_so(alloc, 11, "written 2\n", CHAIN_SIZES, CHAIN_REPORT)?;
     assert!(rt; matches!(whole, Some(Status::Written { instances: 2 })));
     Ok(())
+}
+
+/// Whether a run on a shelf with these files ends with this line and exit code 4, and stores nothing.
+fn lacks(alloc: Global, files: FileList, line: &str) -> Result<bool, Fail> {
+    let mut shelf = shelf_with(alloc, files, &[], 9)?;
+    let status = run(&(), alloc, &size_words(alloc)?, &mut shelf);
+    let told = shelf.said.as_slice() == line.as_bytes();
+    Ok(exit_of(&status) == 4 && told && shelf.files.get(b"n.sizes").is_none())
 }
 
 #[test]
 fn files_are_missing(rt: HostRuntime) -> Result<(), Fail> {
     let alloc = rt.alloc();
-    let mut shelf = shelf_with(alloc, FileList::new(alloc), &[], 9)?;
-    let status = run(&(), alloc, &size_words(alloc)?, &mut shelf);
-    assert_eq!(rt; exit_of(&status), 4);
-    assert!(rt; shelf.said.as_slice() == b"cannot read library\n".as_slice());
-    assert!(rt; shelf.files.get(b"n.sizes").is_none());
+    assert!(rt; lacks(alloc, FileList::new(alloc), "cannot read library\n")?);
+    let mut library = FileList::new(alloc);
+    library.put(alloc, b"n.lib", ROWS.as_bytes())?;
+    assert!(rt; lacks(alloc, library, "cannot read netlist\n")?);
+    let mut three = FileList::new(alloc);
+    three.put(alloc, b"n.lib", ROWS.as_bytes())?;
+    three.put(alloc, b"n.v", CHAIN.as_bytes())?;
+    three.put(alloc, b"n.spef", b"*C_UNIT 1 FF")?;
+    assert!(rt; lacks(alloc, three, "cannot read sdc\n")?);
     Ok(())
 }
 
@@ -416,56 +557,12 @@ fn other_words(rt: HostRuntime) -> Result<(), Fail> {
     let alloc = rt.alloc();
     let short = words_of(alloc, &["size", "--verilog", "a", "--sizes", "b"])?;
     assert!(rt; is_usage(alloc, &short)?);
-    let command = form_of(alloc, "resize", ["a", "b"], ["c", "d"])?;
+    let command = form_of(alloc, "resize", ["a", "b", "c", "d"], ["e", "f"])?;
     assert!(rt; is_usage(alloc, &command)?);
-    let unnamed = form_of(alloc, "size", ["a", ""], ["c", "d"])?;
+    let unnamed = form_of(alloc, "size", ["a", "b", "c", ""], ["e", "f"])?;
     assert!(rt; is_usage(alloc, &unnamed)?);
-    let twice = form_of(alloc, "size", ["a", "b"], ["c", "a"])?;
+    let twice = form_of(alloc, "size", ["a", "b", "c", "d"], ["e", "c"])?;
     assert!(rt; is_usage(alloc, &twice)?);
     assert!(rt; is_usage(alloc, &Words::new(alloc))?);
-    Ok(())
-}
-
-/// A library whose groups are so many deep, one more than `inner`.
-fn nested(alloc: Global, inner: u32) -> Result<Vec<u8>, AllocError> {
-    let mut text = Vec::from_slice(
-        alloc,
-        b"library(l){time_unit:\"1ps\";capacitive_load_unit(1,ff);",
-    )?;
-    for _ in 0..inner {
-        text.extend_from_slice(b"g(){")?;
-    }
-    for _ in 0..inner {
-        text.extend_from_slice(b"}")?;
-    }
-    text.extend_from_slice(b"}")?;
-    Ok(text)
-}
-
-/// Whether a run on these bytes says the line.
-fn says(alloc: Global, library: &[u8], netlist: &[u8], line: &str) -> Result<bool, Fail> {
-    let mut files = FileList::new(alloc);
-    files.put(alloc, b"n.lib", library)?;
-    files.put(alloc, b"n.v", netlist)?;
-    let said = Bytes::empty(alloc);
-    let mut shelf = NeverFails { files, said };
-    let _ = run(&(), alloc, &size_words(alloc)?, &mut shelf);
-    Ok(shelf.said.as_slice() == line.as_bytes())
-}
-
-#[test]
-fn a_library_of_too_deep_groups(rt: HostRuntime) -> Result<(), Fail> {
-    let alloc = rt.alloc();
-    let most = nested(alloc, 63)?;
-    assert!(rt; says(alloc, most.as_slice(), EMPTY.as_bytes(), "written 0\n")?);
-    let more = nested(alloc, 64)?;
-    assert!(rt;
-        says(
-            alloc,
-            more.as_slice(),
-            EMPTY.as_bytes(),
-            "bad library toodeep at 271\n"
-        )?
-    );
     Ok(())
 }

@@ -1,15 +1,20 @@
-use Rattle.gs_top.specs.Design.{IsLinked, LinkCause}
-use Rattle.gs_top.proofs.Stages.{goes_on, settled, stops}
+use Rattle.gs_top.specs.Design.{library, linked_with, netlist_text}
+use Rattle.gs_top.specs.Stage.{and_then}
+use Rattle.gs_top.proofs.Stages.{goes_on, stops}
 use Rattle.gs_top.proofs.link.load_design.Goals as goal
 
-pub returns-in-Err-clause-work : goal.returns-in-Err-clause-work
-returns-in-Err-clause-work g c = stops c.in-Err.ensures
+pub returns-in-Err : goal.returns-in-Err
+returns-in-Err g c = stops {a = library} {next = λ l. and_then netlist_text (λ n. linked_with l n)} c.in-Err.ensures
 
-pub returns-in-Err-load_netlist-clause-work : goal.returns-in-Err-load_netlist-clause-work
-returns-in-Err-load_netlist-clause-work g c = goes_on c.in-Ok.ensures (stops c.in-Err-load_netlist.ensures)
+pub returns-in-Err-load_netlist : goal.returns-in-Err-load_netlist
+returns-in-Err-load_netlist g c =
+    let l = c.in-Ok.library in
+    goes_on {a = library} {next = λ l. and_then netlist_text (λ n. linked_with l n)} {v = l} c.in-Ok.ensures
+    (stops {a = netlist_text} {next = λ n. linked_with l n} c.in-Err-load_netlist.ensures)
 
-pub returns-clause-work : goal.returns-clause-work
-returns-clause-work g c =
+pub returns : goal.returns
+returns g c =
     let l = c.in-Ok.library in
     let n = c.in-Ok-load_netlist.netlist in
-    goes_on c.in-Ok.ensures (goes_on c.in-Ok-load_netlist.ensures (settled (IsLinked l n) (LinkCause l n) c.link.ensures.settles))
+    goes_on {a = library} {next = λ l. and_then netlist_text (λ n. linked_with l n)} {v = l} c.in-Ok.ensures
+    (goes_on {a = netlist_text} {next = λ n. linked_with l n} {v = n} c.in-Ok-load_netlist.ensures c.link_with.ensures)

@@ -1,13 +1,14 @@
+use Rattle.std.proofs.Common.{refl}
 use Rattle.gs_top.specs.Command.{size}
 use Rattle.gs_top.proofs.Planning.{plans, no_plan, no_room, size_allows}
 use Rattle.gs_top.proofs.size.prepare_size.Goals as goal
 
 pub returns-in-Err : goal.returns-in-Err
-returns-in-Err g c = no_plan size c.in-Err.ensures.work
+returns-in-Err g c = no_plan size c.in-Err.ensures
 
 pub returns-in-Ok-plan_size : goal.returns-in-Ok-plan_size
 returns-in-Ok-plan_size g c =
-    plans size c.in-Ok-plan_size.plan (size_allows c.in-Ok.design c.in-Ok-plan_size.plan c.in-Ok-plan_size.ensures) c.in-Ok.ensures.work c.in-Ok-plan_size.ensures
+    plans size c.in-Ok-plan_size.plan (size_allows c.in-Ok.design c.in-Ok-plan_size.plan c.in-Ok-plan_size.ensures) c.in-Ok.ensures (c.in-Ok.design, refl, c.in-Ok-plan_size.ensures)
 
 pub returns : goal.returns
-returns g c = no_room size c.in-Ok.ensures.work
+returns g c = no_room size c.in-Ok.ensures

@@ -1,0 +1,16 @@
+pub mod FoundLaws
+pub mod Growing
+pub mod WellLists
+pub mod WellSound
+pub mod WellClass
+pub mod WellInsts
+pub mod WellNets
+pub mod WellEnds
+pub mod WellOrder
+pub mod BuildLaws
+pub mod SiteLaws
+pub mod NotMem
+pub mod Well
+pub mod SinkLaws
+pub mod CauseLaws
+pub mod Joining

@@ -1,0 +1,11 @@
+pub mod First
+pub mod Numbers
+pub mod Instances
+pub mod Uses
+pub mod Limits
+pub mod Counts
+pub mod Fault
+pub mod Found
+pub mod Blank
+pub mod Arcs
+pub mod Survey

@@ -1,0 +1,148 @@
+//! What the tests share: a library, designs, and the words and files of a run.
+
+use crate::words::Words;
+use gs_quantity::Mem;
+use gs_shelf::FileList;
+use std::alloc::{AllocError, Global};
+
+/// Inverters and NAND gates of two sizes and a flip-flop, with all that timing needs.
+pub(crate) const ROWS: &str = "library (rows) {
+time_unit : \"1ps\"; capacitive_load_unit (1, ff); leakage_power_unit : \"1uW\"; default_max_transition : 100;
+lu_table_template (t) { variable_1 : total_output_net_capacitance; index_1 (\"0, 10\"); }
+cell (I1) { area : 1; cell_leakage_power : 1; cell_footprint : \"inv\";
+pin (a) { direction : input; capacitance : 1; }
+pin (o) { direction : output; max_capacitance : 8; function : \"!a\";
+timing () { related_pin : \"a\"; timing_sense : negative_unate;
+cell_rise (t) { values (\"4, 24\"); } cell_fall (t) { values (\"4, 24\"); }
+rise_transition (t) { values (\"2, 12\"); } fall_transition (t) { values (\"2, 12\"); } } } }
+cell (I2) { area : 2; cell_leakage_power : 3; cell_footprint : \"inv\";
+pin (a) { direction : input; capacitance : 2; }
+pin (o) { direction : output; max_capacitance : 16; function : \"!a\";
+timing () { related_pin : \"a\"; timing_sense : negative_unate;
+cell_rise (t) { values (\"4, 14\"); } cell_fall (t) { values (\"4, 14\"); }
+rise_transition (t) { values (\"2, 7\"); } fall_transition (t) { values (\"2, 7\"); } } } }
+cell (N1) { area : 2; cell_leakage_power : 2; cell_footprint : \"nand\";
+pin (a, b) { direction : input; capacitance : 1; }
+pin (o) { direction : output; max_capacitance : 8; function : \"!(a*b)\";
+timing () { related_pin : \"a b\"; timing_sense : negative_unate;
+cell_rise (t) { values (\"4, 24\"); } cell_fall (t) { values (\"4, 24\"); }
+rise_transition (t) { values (\"2, 12\"); } fall_transition (t) { values (\"2, 12\"); } } } }
+cell (N2) { area : 4; cell_leakage_power : 5; cell_footprint : \"nand\";
+pin (a, b) { direction : input; capacitance : 2; }
+pin (o) { direction : output; max_capacitance : 16; function : \"!(a*b)\";
+timing () { related_pin : \"a b\"; timing_sense : negative_unate;
+cell_rise (t) { values (\"4, 14\"); } cell_fall (t) { values (\"4, 14\"); }
+rise_transition (t) { values (\"2, 7\"); } fall_transition (t) { values (\"2, 7\"); } } } }
+cell (F1) { area : 6; cell_leakage_power : 4; cell_footprint : \"ff\";
+ff (\"IQ\", \"IQN\") { next_state : \"d\"; clocked_on : \"ck\"; }
+pin (ck) { direction : input; capacitance : 1; clock : true; }
+pin (d) { direction : input; capacitance : 1; }
+pin (q) { direction : output; max_capacitance : 16; function : \"IQ\";
+timing () { related_pin : \"ck\"; timing_type : rising_edge;
+cell_rise (t) { values (\"10, 20\"); } cell_fall (t) { values (\"10, 20\"); }
+rise_transition (t) { values (\"2, 12\"); } fall_transition (t) { values (\"2, 12\"); } } } }
+}
+";
+
+/// A chain of two inverters.
+pub(crate) const CHAIN: &str =
+    "module c (x, z); input x; output z; I2 g1 (.a(x), .o(n1)); I2 g2 (.a(n1), .o(z)); endmodule";
+
+pub(crate) const CHAIN_SIZES: &str = "g1 I2\ng2 I2\n";
+
+pub(crate) const CHAIN_REPORT: &str = "gate-sizing-report 1\nleakage 6.000000 1uW\n";
+
+/// A text of no wires.
+pub(crate) const NO_WIRES: &str = "*C_UNIT 1 FF\n";
+
+/// A clock, and a load at the output of the chain.
+pub(crate) const CLOCK: &str =
+    "create_clock -name k -period 100\nset_load -pin_load 6 [get_ports z]\n";
+
+/// A clock alone.
+pub(crate) const BARE_CLOCK: &str = "create_clock -name k -period 1\n";
+
+/// A path from inputs through a flip-flop to an output, its wires and its constraints.
+pub(crate) const PATH: &str = "module top (ck, x, y, z);
+input ck, x, y;
+output z;
+wire n1, n2, n3, q;
+N2 g1 (.a(x), .b(y), .o(n1));
+I2 g2 (.a(n1), .o(n2));
+F1 f1 (.ck(ck), .d(n2), .q(q));
+I2 g3 (.a(q), .o(n3));
+I2 g4 (.a(n3), .o(z));
+endmodule
+";
+
+pub(crate) const PATH_WIRES: &str = "*C_UNIT 1 FF\n*D_NET n1 1\n*END\n";
+
+pub(crate) const PATH_LIMITS: &str = "create_clock -name ck -period 100 [get_ports ck]
+set_input_delay 5 [get_ports {x y}] -clock [get_clocks ck]
+set_output_delay 10 [get_ports z] -clock [get_clocks ck]
+set_load -pin_load 3 [get_ports z]
+";
+
+/// The texts of the files that a run reads.
+#[derive(Clone, Copy)]
+pub(crate) struct Texts {
+    pub(crate) library: &'static str,
+    pub(crate) netlist: &'static str,
+    pub(crate) spef: &'static str,
+    pub(crate) sdc: &'static str,
+}
+
+/// The chain's.
+pub(crate) const CHAIN_TEXTS: Texts = Texts {
+    library: ROWS,
+    netlist: CHAIN,
+    spef: NO_WIRES,
+    sdc: CLOCK,
+};
+
+pub(crate) fn words_of(alloc: Global, texts: &[&str]) -> Result<Words, Mem> {
+    let mut words = Words::new(alloc);
+    for text in texts {
+        words.add(text)?;
+    }
+    Ok(words)
+}
+
+/// The words of a command in the form of `size`, with these files.
+pub(crate) fn form_of(
+    alloc: Global,
+    command: &str,
+    inputs: [&str; 4],
+    outputs: [&str; 2],
+) -> Result<Words, Mem> {
+    let [lib, verilog, spef, sdc] = inputs;
+    let [sizes, report] = outputs;
+    let mut words = words_of(alloc, &[command, "--lib", lib, "--verilog", verilog])?;
+    for text in [
+        "--spef", spef, "--sdc", sdc, "--sizes", sizes, "--report", report,
+    ] {
+        words.add(text)?;
+    }
+    Ok(words)
+}
+
+pub(crate) fn size_words(alloc: Global) -> Result<Words, Mem> {
+    form_of(
+        alloc,
+        "size",
+        ["n.lib", "n.v", "n.spef", "n.sdc"],
+        ["n.sizes", "n.rpt"],
+    )
+}
+
+/// These four files, and two from before.
+pub(crate) fn files_with(alloc: Global, texts: Texts) -> Result<FileList, AllocError> {
+    let mut files = FileList::new(alloc);
+    files.put(alloc, b"n.lib", texts.library.as_bytes())?;
+    files.put(alloc, b"n.v", texts.netlist.as_bytes())?;
+    files.put(alloc, b"n.spef", texts.spef.as_bytes())?;
+    files.put(alloc, b"n.sdc", texts.sdc.as_bytes())?;
+    files.put(alloc, b"n.sizes", b"before")?;
+    files.put(alloc, b"n.rpt", b"earlier")?;
+    Ok(files)
+}
