@@ -2,7 +2,6 @@
 //!
 //! - [`write_report`] writes what sizes of a design leak and every limit that their timing doesn't meet, and of a run how it ended and what
 //!   each worker committed. Its contract says which bytes: `report_text` of `specs/Report.antt`.
-//! - [`write_leak_report`] writes a leakage alone, where nothing is timed: `report_text` of `specs/Text.antt`.
 //! - [`write_log`] writes the entries of a run in order: `log_text` of `specs/Log.antt`.
 //!
 //! Each definition there is one line of a format, as the words of that line (`specs/Lines.antt`). What is written is computed by
@@ -14,7 +13,6 @@
 //! To add a line, add its definition, write the function that appends it, and call that in `src/report.rt` or `src/writing.rt`.
 #![tactic(auto)]
 
-mod leakage;
 mod names;
 mod report;
 mod run;
@@ -25,7 +23,6 @@ mod words;
 mod workers;
 mod writing;
 
-pub use leakage::write_leak_report;
 pub use report::write_report;
 pub use run::{Log, Ran};
 pub use writing::write_log;

@@ -5,7 +5,6 @@ ghost use Rattle.std.specs.Prelude.{◌≡◌, [], ◌∷◌, IfOk, None, length
 ghost use Rattle.gs_design.specs.Nets.{Net};
 ghost use Rattle.gs_design.specs.declared.sink.Driver.TheVariants.{Port};
 
-use crate::leakage::write_leak_report;
 use crate::report::write_report;
 use crate::run::{Log, Ran};
 use crate::writing::write_log;
@@ -197,16 +196,5 @@ fn a_run_has_its_lines(rt: HostRuntime) -> Result<(), Fail> {
 fn a_log_without_entries_has_two_lines(rt: HostRuntime) -> Result<(), Fail> {
     let text = log_of(rt.alloc(), Ended::Settled, 12)?;
     assert!(rt; text.as_slice() == b"gate-sizing-log 1\nend settled 0 12\n".as_slice());
-    Ok(())
-}
-
-#[test]
-fn the_unit_may_be_empty(rt: HostRuntime) -> Result<(), Fail> {
-    let alloc = rt.alloc();
-    let unit = Name::copy_of(alloc, b"1uW")?;
-    let text = write_leak_report(alloc, Micro(6_000_000), &unit)?;
-    assert!(rt; text.as_slice() == b"gate-sizing-report 1\nleakage 6.000000 1uW\n".as_slice());
-    let bare = write_leak_report(alloc, Micro(2), &Name::empty(alloc))?;
-    assert!(rt; bare.as_slice() == b"gate-sizing-report 1\nleakage 0.000002\n".as_slice());
     Ok(())
 }

@@ -1,7 +1,7 @@
 -- A written text stands for the sizes of which it was written.
 
-use Rattle.std.proofs.Common.{◌≡◌, ◌≢◌, ◌⊎◌, inl, inr, ℕ, zero, suc, ◌+◌, ◌-◌, ◌<◌, ◌≤◌, ◌==◌, ◌||◌, Bool, true, false, cond, not, List, [], ◌∷◌, ◌++◌, All, AllPairs, filter, map, length, take, slice_index, slice_index_or, if◌then◌else◌, Option, None, Some, append_assoc, refl, sym, ◌∙◌, ap, subst, arith}
-use Rattle.std.specs.List.{flat_map, position_from, range_with_len}
+use Rattle.std.proofs.Common.{◌≡◌, ◌≢◌, ◌⊎◌, inl, inr, ℕ, zero, suc, ◌+◌, ◌-◌, ◌<◌, ◌≤◌, ◌==◌, ◌||◌, Bool, true, false, cond, List, [], ◌∷◌, ◌++◌, All, filter, map, length, take, slice_index, slice_index_or, if◌then◌else◌, None, Some, append_assoc, refl, sym, ◌∙◌, ap, subst, arith}
+use Rattle.std.specs.List.{flat_map, range_with_len}
 use Rattle.std.specs.Str.{bytes_eq}
 use Rattle.std.proofs.lemmas.Bool.{cases_order, eq-eqb, eqb-true, false≢true}
 use Rattle.std.proofs.lemmas.List.{length-map}
@@ -14,9 +14,10 @@ use Rattle.gs_text.specs.Pieces.{IsUnbroken}
 use Rattle.gs_design.specs.Cells.{cell_at, cell_name, no_cell}
 use Rattle.gs_design.specs.Insts.{inst_at, inst_name, no_inst}
 use Rattle.gs_design.specs.Sizes.{FitSizes, cell_of}
+use Rattle.gs_design.specs.Parts.{parts_of}
 use Rattle.gs_design.specs.declared.design.Design.{Design}
 use Rattle.gs_grammar.specs.Judged.{AreGood, upon}
-use Rattle.gs_sizes.specs.Lines.{Row, is_blank, is_empty, lines, parts, row_of, rows, rows_from, runs, with_first, without_return, words}
+use Rattle.gs_sizes.specs.Lines.{Row, is_blank, lines, parts, row_of, rows_from, runs, with_first, without_return, words}
 use Rattle.gs_sizes.specs.Sizes.{GivesSizes, IsSizes, cell_fault, fault, given, given_by, inst_fault, inst_named, is_at, place_fault, place_named, words_fault}
 use Rattle.gs_sizes.specs.Written.{line_text, sizes_text}
 use Rattle.gs_sizes.proofs.Positions.{found_at}
@@ -135,7 +136,7 @@ module _ (d : Design) (s : List ℕ) (fit : FitSizes d s) where
       let name_g : slice_index_or (map inst_name d.insts) g (inst_name no_inst) ≡ inst_text g = get_or-map inst_name d.insts g no_inst in
       d.well.names_differ h g (inst_name no_inst) below (omega (arith, length-map d.insts inst_name)) (name_h ∙ e ∙ sym name_g)
 
-  named : (g : ℕ) → g < length d.insts → inst_named d (inst_text g) ≡ Some g
+  named : (g : ℕ) → g < length d.insts → inst_named (parts_of d) (inst_text g) ≡ Some g
   named g lt =
       found_at (λ i. bytes_eq i.name (inst_text g)) d.insts no_inst 0 g lt (same_bytes (inst_text g))
       (λ h below. other_bytes (inst_text h) (inst_text g) (insts_apart h g below lt)) ∙ ap Some (omega arith)
@@ -155,7 +156,7 @@ module _ (d : Design) (s : List ℕ) (fit : FitSizes d s) where
       by_order (inr (inl lt)) = below_apart a b lt b_in
       by_order (inr (inr gt)) = λ e. below_apart b a gt a_in (sym e)
 
-  placed : (g : ℕ) → g < length d.insts → place_named d g (cell_text g) ≡ Some (slice_index s g)
+  placed : (g : ℕ) → g < length d.insts → place_named (parts_of d) g (cell_text g) ≡ Some (slice_index s g)
   placed g lt =
       let kept = d.well.alts g lt in
       let p_in : slice_index s g < length (inst_at d.insts g).alts = fit.places_in g lt in
@@ -187,24 +188,24 @@ module _ (d : Design) (s : List ℕ) (fit : FitSizes d s) where
 
   -- what the lines of the first k instances give
   record IsGivenTo (k : ℕ) (past : List Row) : Type 0 where
-    pub there : (g : ℕ) → g < length d.insts → g < k → given d past g ≡ Some (slice_index s g)
-    pub none : (g : ℕ) → g < length d.insts → k ≤ g → given d past g ≡ None
+    pub there : (g : ℕ) → g < length d.insts → g < k → given (parts_of d) past g ≡ Some (slice_index s g)
+    pub none : (g : ℕ) → g < length d.insts → k ≤ g → given (parts_of d) past g ≡ None
 
   module _ (k i : ℕ) (past : List Row) (lt : k < length d.insts) (h : IsGivenTo k past) where
-    here : (g : ℕ) → given d (row_of i (line_at k) ∷ past) g ≡ (if k == g then place_named d g (cell_text k) else given d past g)
+    here : (g : ℕ) → given (parts_of d) (row_of i (line_at k) ∷ past) g ≡ (if k == g then place_named (parts_of d) g (cell_text k) else given (parts_of d) past g)
     here g =
-        ap (λ ws. given_by d ws g (given d past g)) (line_words k lt)
-        ∙ ap (λ o. if is_at g o then place_named d g (cell_text k) else given d past g) (named k lt)
+        ap (λ ws. given_by (parts_of d) ws g (given (parts_of d) past g)) (line_words k lt)
+        ∙ ap (λ o. if is_at g o then place_named (parts_of d) g (cell_text k) else given (parts_of d) past g) (named k lt)
 
-    there_by : (g : ℕ) → g < length d.insts → g < k + 1 → (b : Bool) → (k == g) ≡ b → (if b then place_named d g (cell_text k) else given d past g) ≡ Some (slice_index s g)
+    there_by : (g : ℕ) → g < length d.insts → g < k + 1 → (b : Bool) → (k == g) ≡ b → (if b then place_named (parts_of d) g (cell_text k) else given (parts_of d) past g) ≡ Some (slice_index s g)
     there_by g g_in below true e =
         let same : k ≡ g = eqb-true k g e in
-        ap (λ j. place_named d g (cell_text j)) same ∙ placed g g_in
+        ap (λ j. place_named (parts_of d) g (cell_text j)) same ∙ placed g g_in
     there_by g g_in below false e =
         let other : k ≢ g = λ same. false≢true (sym e ∙ eq-eqb k g same) in
         h.there g g_in (omega arith)
 
-    none_by : (g : ℕ) → g < length d.insts → k + 1 ≤ g → (b : Bool) → (k == g) ≡ b → (if b then place_named d g (cell_text k) else given d past g) ≡ None
+    none_by : (g : ℕ) → g < length d.insts → k + 1 ≤ g → (b : Bool) → (k == g) ≡ b → (if b then place_named (parts_of d) g (cell_text k) else given (parts_of d) past g) ≡ None
     none_by g g_in above true e =
         let same : k ≡ g = eqb-true k g e in
         absurd (omega arith)
@@ -216,18 +217,18 @@ module _ (d : Design) (s : List ℕ) (fit : FitSizes d s) where
       none = λ g g_in above. here g ∙ none_by g g_in above (k == g) refl;
     }
 
-    no_fault : fault d past (row_of i (line_at k)) ≡ None
+    no_fault : fault (parts_of d) past (row_of i (line_at k)) ≡ None
     no_fault =
-        ap (words_fault d past) (line_words k lt)
-        ∙ ap (λ o. inst_fault d past o (cell_text k)) (named k lt)
-        ∙ ap (λ o. place_fault d o k (cell_text k)) (h.none k lt (omega arith))
+        ap (words_fault (parts_of d) past) (line_words k lt)
+        ∙ ap (λ o. inst_fault (parts_of d) past o (cell_text k)) (named k lt)
+        ∙ ap (λ o. place_fault (parts_of d) o k (cell_text k)) (h.none k lt (omega arith))
         ∙ ap cell_fault (placed k lt)
 
   abbrev rows_to : (k m i : ℕ) → List Row
   rows_to k m i = rows_from i (map line_at (range_with_len k m))
 
   record IsRead (k m i : ℕ) (past : List Row) : Type 0 where
-    pub good : AreGood (fault d) past (rows_to k m i)
+    pub good : AreGood (fault (parts_of d)) past (rows_to k m i)
     pub given_to : IsGivenTo (length d.insts) (upon past (rows_to k m i))
 
   all_read : (k m i : ℕ) (past : List Row) → k + m ≡ length d.insts → IsGivenTo k past → IsRead k m i past
@@ -244,8 +245,8 @@ module _ (d : Design) (s : List ℕ) (fit : FitSizes d s) where
       let k_in : k < length d.insts = omega (arith, length-range_with_len 0 (length d.insts)) in
       rw (get_or-range_with_len 0 (length d.insts) k x k_in) (omega arith)
 
-  pub written_back : IsSizes d (sizes_text d s) s
+  pub written_back : IsSizes (parts_of d) (sizes_text d s) s
   written_back =
       let read = all_read 0 (length d.insts) 1 [] (omega arith) (record { there = λ g g_in below. absurd (omega arith); none = λ g g_in above. refl }) in
-      subst (λ ls. GivesSizes d (rows_from 1 ls) s) (sym (text_lines (range_with_len 0 (length d.insts)) numbers_in))
+      subst (λ ls. GivesSizes (parts_of d) (rows_from 1 ls) s) (sym (text_lines (range_with_len 0 (length d.insts)) numbers_in))
       (record { good = read.good; as_many = fit.as_many; each = λ g lt. read.given_to.there g lt lt })

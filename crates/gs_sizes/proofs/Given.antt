@@ -1,7 +1,6 @@
 -- The places that lines give, in a list.
 
-use Rattle.std.proofs.Common.{◌≡◌, ◌≢◌, ℕ, zero, suc, ◌+◌, ◌<◌, ◌≤◌, ◌==◌, Bool, true, false, cond, List, [], ◌∷◌, map, length, slice_index, slice_index_or, slice_set, if◌then◌else◌, Option, None, Some, Result, Ok, Err, refl, sym, ◌∙◌, ap, subst, arith}
-use Rattle.std.specs.List.{position_from, range_with_len}
+use Rattle.std.proofs.Common.{◌≡◌, ◌≢◌, ℕ, ◌<◌, ◌==◌, Bool, true, false, List, [], ◌∷◌, length, slice_index_or, slice_set, if◌then◌else◌, Option, None, Some, Result, Ok, Err, refl, sym, ◌∙◌, ap, arith}
 use Rattle.std.specs.Prelude.{OnOk}
 use Rattle.std.specs.Str.{bytes_eq}
 use Rattle.std.proofs.lemmas.Bool.{eq-eqb, eqb-true, false≢true}
@@ -9,13 +8,13 @@ use Rattle.std.proofs.lemmas.List.{get_or-set_other, get_or-set_same, length-set
 use Rattle.std.proofs.lemmas.List.FromFn.{fill_by_all}
 use Rattle.gs_design.specs.Cells.{cell_at}
 use Rattle.gs_design.specs.Insts.{inst_at}
-use Rattle.gs_design.specs.declared.design.Design.{Design}
+use Rattle.gs_design.specs.declared.parts.Parts.{Parts}
 use Rattle.gs_sizes.specs.Lines.{Row, row_of, words}
 use Rattle.gs_sizes.specs.Reader.{GivesPlace, Holds, all_given}
-use Rattle.gs_sizes.specs.Sizes.{fault, given, given_by, inst_fault, inst_named, is_at, place_fault, place_named}
+use Rattle.gs_sizes.specs.Sizes.{given, given_by, inst_fault, inst_named, is_at, place_fault, place_named}
 use Rattle.gs_sizes.proofs.Positions.{found_below}
 
-module _ (d : Design) where
+module _ (d : Parts) where
   -- one place more
   pub places_set : (places new : List (Option ℕ)) (past : List Row) (inst cell : List ℕ) (g : ℕ) → Holds d places past → g < length d.insts → inst_named d inst ≡ Some g
       → new ≡ slice_set places g (place_named d g cell) → place_fault d (slice_index_or places g None) g cell ≡ None → GivesPlace d new past inst cell

@@ -1,16 +1,18 @@
 -- What is said of a text's lines is that they give sizes, or its one cause.
 
-use Rattle.std.proofs.Common.{◌≡◌, ◌≢◌, ℕ, zero, suc, ◌+◌, ◌<◌, ◌≤◌, List, [], ◌∷◌, map, length, slice_index, slice_index_or, refl, sym, ap, subst, ◌∙◌, Bool, true, false, Option, None, Some, Result, Ok, Err, arith}
-use Rattle.std.specs.List.{position_from, range_with_len}
+use Rattle.std.proofs.Common.{◌≡◌, ◌≢◌, ℕ, zero, suc, ◌<◌, List, [], ◌∷◌, map, length, slice_index, slice_index_or, refl, sym, ap, subst, ◌∙◌, true, false, Option, None, Some, Ok, Err, arith}
+use Rattle.std.specs.List.{position_from}
 use Rattle.std.proofs.lemmas.List.{length-map}
 use Rattle.std.proofs.lemmas.List.FromFn.{get_or-map-range_with_len, length-map-range_with_len}
 use Rattle.gs_design.specs.Insts.{inst_at}
 use Rattle.gs_design.specs.Sizes.{FitSizes}
+use Rattle.gs_design.specs.Parts.{parts_of}
 use Rattle.gs_design.specs.declared.design.Design.{Design}
+use Rattle.gs_design.specs.declared.parts.Parts.{Parts}
 use Rattle.gs_grammar.specs.Judged.{upon, AreGood, IsFirstFault, first_fault}
 use Rattle.gs_grammar.proofs.Judged.{all_good, finds, good_none, is_first}
 use Rattle.gs_sizes.specs.Lines.{Row}
-use Rattle.gs_sizes.specs.Reader.{all_given, ended, ended_by, is_none, judged, or_zero, reading, refusal_of}
+use Rattle.gs_sizes.specs.Reader.{all_given, ended_by, is_none, judged, or_zero, reading, refusal_of}
 use Rattle.gs_sizes.specs.Refusal.{Cause, IsFirstAbsent, IsFirstAt}
 use Rattle.gs_sizes.specs.Sizes.{GivesSizes, fault, given}
 use Rattle.gs_sizes.specs.declared.error.Fault.{Fault}
@@ -46,7 +48,7 @@ all_there (o ∷ os) (x ∷ s) many each =
     let rest : map or_zero os ≡ s = all_there os s (omega arith) (λ k lt. each (suc k) (omega arith)) in
     ap (λ y. or_zero y ∷ map or_zero os) first ∙ ap (λ ys. x ∷ ys) rest
 
-module _ (d : Design) (ls : List Row) where
+module _ (d : Parts) (ls : List Row) where
   abbrev past : List Row
   past = upon [] ls
 
@@ -156,6 +158,6 @@ module _ (d : Design) (ls : List Row) where
   pub lasts : (e : SizesErr) → reading d ls ≡ Err e → e ≢ Mem
   lasts e h = lasts_by (first_fault (fault d) [] ls) e h
 
-  -- what is given fits
-  pub fits : (s : List ℕ) → GivesSizes d ls s → FitSizes d s
-  fits s t = record { as_many = t.as_many; places_in = λ g lt. given_below d past g (slice_index s g) (t.each g lt) }
+-- what is given fits the design of these parts
+pub fits : (d : Design) (ls : List Row) (s : List ℕ) → GivesSizes (parts_of d) ls s → FitSizes d s
+fits d ls s t = record { as_many = t.as_many; places_in = λ g lt. given_below (parts_of d) (upon [] ls) g (slice_index s g) (t.each g lt) }

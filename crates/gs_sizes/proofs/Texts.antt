@@ -1,11 +1,10 @@
 -- The lines and words of a text, from the front on.
 
-use Rattle.std.proofs.Common.{◌≡◌, ◌≢◌, ℕ, zero, suc, ◌+◌, ◌-◌, ◌<◌, ◌≤◌, ◌==◌, Bool, true, false, cond, not, List, [], ◌∷◌, ◌++◌, All, drop, filter, length, map, take, slice_index, slice_index_or, if◌then◌else◌, refl, sym, ◌∙◌, ap, subst, arith}
+use Rattle.std.proofs.Common.{◌≡◌, ◌≢◌, ℕ, suc, ◌+◌, ◌<◌, ◌==◌, Bool, true, false, cond, not, List, [], ◌∷◌, ◌++◌, drop, filter, length, map, take, if◌then◌else◌, refl, sym, ◌∙◌, ap, arith}
 use Rattle.std.specs.List.{flat_map, prefix_len, range_with_len}
-use Rattle.std.proofs.lemmas.Bool.{eq-eqb, eqb-true, false≢true}
 use Rattle.std.proofs.lemmas.List.{drop-drop, flat_map_more, length-drop}
 use Rattle.std.proofs.lemmas.List.FromFn.{map-range_with_len_more}
-use Rattle.gs_sizes.specs.Lines.{Row, is_blank, is_empty, lines, parts, row_of, rows_from, runs, with_first, without_return, words}
+use Rattle.gs_sizes.specs.Lines.{is_blank, is_empty, lines, parts, rows_from, runs, with_first}
 
 abbrev pub to_newline : List ℕ → ℕ
 to_newline l = prefix_len (λ c. not (c == 10)) l

@@ -2,6 +2,7 @@
 #![tactic(auto)]
 
 ghost use Rattle.std.specs.Prelude.{◌≡◌, ◌<◌, length, IfOk};
+ghost use Rattle.gs_design.specs.Parts.{parts_of};
 ghost use Rattle.gs_sizes.specs.Reader.{Knows};
 ghost use Rattle.gs_sizes.specs.Sizes.{place_named};
 
@@ -12,7 +13,7 @@ use std::alloc::{AllocError, Global};
 
 /// A map from the names of the instances to their numbers. Names that stand twice would find the first.
 pub fn inst_names(alloc: Global, design: &Design) -> Result<NameMap<u32>, AllocError>
-    ensures { IfOk result (Knows design.now) }
+    ensures { IfOk result (Knows (parts_of design.now)) }
 {
     let count = design.insts.len() as u32;
     let mut names = NameMap::new(alloc, design.insts.len() / 8 + 1)?;
@@ -26,7 +27,7 @@ pub fn inst_names(alloc: Global, design: &Design) -> Result<NameMap<u32>, AllocE
 /// The place of the cell of a name among the alternatives of an instance.
 pub fn place_named(design: &Design, inst: InstId, cell: &[u8]) -> Option<u32>
     requires { inst < length design.now.insts }
-    ensures { result ≡ place_named design.now inst cell.now }
+    ensures { result ≡ place_named (parts_of design.now) inst cell.now }
 {
     let alts = design.insts.alts(inst);
     for place in 0..alts.len() {

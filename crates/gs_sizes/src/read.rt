@@ -2,6 +2,7 @@
 #![tactic(auto)]
 
 ghost use Rattle.std.specs.Prelude.{◌≡◌, ◌<◌, ◌≤◌, ◌^◌, ◌∷◌, ℕ, List, Err, None, Some, length, replicate, slice_index_or, slice_set, IfErr, IfOk, OnOk};
+ghost use Rattle.gs_design.specs.Parts.{parts_of};
 ghost use Rattle.gs_design.specs.Sizes.{FitSizes};
 ghost use Rattle.gs_grammar.specs.Answers.{Answers, Fails, IsDecided, IsExact, IsOnly};
 ghost use Rattle.gs_names.specs.Names.{HasBuckets, find};
@@ -29,9 +30,9 @@ fn give(
 ) -> Result<(), Fault>
     requires many { length places.old.items ≡ length design.now.insts }
     requires inst { inst < length design.now.insts }
-    ensures set { OnOk result (places.new.items ≡ slice_set places.old.items inst (place_named design.now inst cell.now)) }
-    ensures good { OnOk result (place_fault design.now (slice_index_or places.old.items inst None) inst cell.now ≡ None) }
-    ensures err { IfErr result (λ f. place_fault design.now (slice_index_or places.old.items inst None) inst cell.now ≡ Some f) }
+    ensures set { OnOk result (places.new.items ≡ slice_set places.old.items inst (place_named (parts_of design.now) inst cell.now)) }
+    ensures good { OnOk result (place_fault (parts_of design.now) (slice_index_or places.old.items inst None) inst cell.now ≡ None) }
+    ensures err { IfErr result (λ f. place_fault (parts_of design.now) (slice_index_or places.old.items inst None) inst cell.now ≡ Some f) }
 {
     let at = inst.index();
     if places[at].is_some() {
@@ -65,9 +66,9 @@ fn give_named(
     cell: &[u8],
 ) -> Result<(), Stop>
     requires many { length places.old.items ≡ length design.now.insts }
-    requires knows { Knows design.now names.now }
-    ensures ok { OnOk result ((past : List Row) → Holds design.now places.old.items past → GivesPlace design.now places.new.items past inst.now cell.now) }
-    ensures err { IfErr result (λ e. (past : List Row) → Holds design.now places.old.items past → Stops e (inst_fault design.now past (inst_named design.now inst.now) cell.now)) }
+    requires knows { Knows (parts_of design.now) names.now }
+    ensures ok { OnOk result ((past : List Row) → Holds (parts_of design.now) places.old.items past → GivesPlace (parts_of design.now) places.new.items past inst.now cell.now) }
+    ensures err { IfErr result (λ e. (past : List Row) → Holds (parts_of design.now) places.old.items past → Stops e (inst_fault (parts_of design.now) past (inst_named (parts_of design.now) inst.now) cell.now)) }
 {
     let Some(found) = inst_of(alloc, names, inst)? else {
         return Err(Stop::At(Fault::Unknown));
@@ -87,10 +88,10 @@ fn take(
     line: &[u8],
 ) -> Result<(), Stop>
     requires many { length places.old.items ≡ length design.now.insts }
-    requires knows { Knows design.now names.now }
-    ensures ok { OnOk result ((past : List Row) (i : ℕ) → Holds design.now places.old.items past → Holds design.now places.new.items (row_of i line.now ∷ past)) }
-    ensures good { OnOk result ((past : List Row) (i : ℕ) → Holds design.now places.old.items past → fault design.now past (row_of i line.now) ≡ None) }
-    ensures err { IfErr result (λ e. (past : List Row) (i : ℕ) → Holds design.now places.old.items past → Stops e (fault design.now past (row_of i line.now))) }
+    requires knows { Knows (parts_of design.now) names.now }
+    ensures ok { OnOk result ((past : List Row) (i : ℕ) → Holds (parts_of design.now) places.old.items past → Holds (parts_of design.now) places.new.items (row_of i line.now ∷ past)) }
+    ensures good { OnOk result ((past : List Row) (i : ℕ) → Holds (parts_of design.now) places.old.items past → fault (parts_of design.now) past (row_of i line.now) ≡ None) }
+    ensures err { IfErr result (λ e. (past : List Row) (i : ℕ) → Holds (parts_of design.now) places.old.items past → Stops e (fault (parts_of design.now) past (row_of i line.now))) }
 {
     let Some((inst, rest)) = first_word(without_return(line)) else {
         return Ok(());
@@ -153,7 +154,7 @@ fn finish(
     count: u32,
 ) -> Result<Sizes, SizesErr>
     requires { length places.now ≡ length design.now.insts }
-    ensures { Answers SizesErr.Mem (ended design.now count places.now) result }
+    ensures { Answers SizesErr.Mem (ended (parts_of design.now) count places.now) result }
 {
     let mut sizes = Vec::with_capacity(alloc, places.len())?;
     for inst in 0..places.len() {
@@ -173,8 +174,8 @@ fn read_lines(
     bytes: &[u8],
 ) -> Result<Sizes, SizesErr>
     requires few { length bytes.now ≤ 2 ^ 28 }
-    requires knows { Knows design.now names.now }
-    ensures { Answers SizesErr.Mem (reading design.now (rows bytes.now)) result }
+    requires knows { Knows (parts_of design.now) names.now }
+    ensures { Answers SizesErr.Mem (reading (parts_of design.now) (rows bytes.now)) result }
 {
     let mut places = none_given(alloc, design.insts.len())?;
     let mut at = 0;
@@ -193,7 +194,7 @@ fn read_lines(
 // Reads a text.
 fn read_text(alloc: Global, design: &Design, bytes: &[u8]) -> Result<Sizes, SizesErr>
     requires { length bytes.now ≤ 2 ^ 28 }
-    ensures { Answers SizesErr.Mem (reading design.now (rows bytes.now)) result }
+    ensures { Answers SizesErr.Mem (reading (parts_of design.now) (rows bytes.now)) result }
 {
     let names = inst_names(alloc, design)?;
     read_lines(alloc, design, &names, bytes)
@@ -211,17 +212,17 @@ fn read_text(alloc: Global, design: &Design, bytes: &[u8]) -> Result<Sizes, Size
 pub fn read_sizes(alloc: Global, design: &Design, bytes: &[u8]) -> Result<Sizes, SizesErr>
     requires { length bytes.now ≤ 2 ^ 28 }
     // What is read is what the text stands for,
-    ensures ok { IfOk result (IsSizes design.now bytes.now) }
+    ensures ok { IfOk result (IsSizes (parts_of design.now) bytes.now) }
     // and fits the design.
     ensures fit { IfOk result (FitSizes design.now) }
     // A text is read as the sizes for which it stands, unless memory runs out.
-    ensures only { IsOnly SizesErr.Mem (IsSizes design.now bytes.now) result }
+    ensures only { IsOnly SizesErr.Mem (IsSizes (parts_of design.now) bytes.now) result }
     // Each refusal comes only by its cause,
-    ensures err { IfErr result (HasCause design.now bytes.now) }
+    ensures err { IfErr result (HasCause (parts_of design.now) bytes.now) }
     // and where a cause stands, its refusal comes, unless memory runs out.
-    ensures exact { IsExact SizesErr.Mem (HasCause design.now bytes.now) result }
+    ensures exact { IsExact SizesErr.Mem (HasCause (parts_of design.now) bytes.now) result }
     // Each text stands for sizes, or there is a cause.
-    ensures decided { IsDecided SizesErr.Mem (IsSizes design.now bytes.now) (HasCause design.now bytes.now) }
+    ensures decided { IsDecided SizesErr.Mem (IsSizes (parts_of design.now) bytes.now) (HasCause (parts_of design.now) bytes.now) }
 {
     let read = read_text(alloc, design, bytes);
     read

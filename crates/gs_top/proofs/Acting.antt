@@ -3,17 +3,19 @@ use Rattle.std.proofs.Common.{◌≡◌, ◌≢◌, ◌∙◌, refl, sym, ap, su
 use Rattle.gs_shelf.specs.Faults.{CountsStay}
 use Rattle.gs_shelf.specs.Files.{AllStay}
 use Rattle.gs_shelf.specs.declared.calls.Op.TheVariants.{Store}
-use Rattle.gs_top.specs.Act.{Acts, ActsOf}
+use Rattle.gs_top.specs.Act.{Acts, ActsOf, words_status}
 use Rattle.gs_top.specs.Answer.{Seen, Stopped, ByMemory, ByFault, ByRefusal, Unfetched}
 use Rattle.gs_top.specs.Command.{Prepares, command_of, inputs_of}
-use Rattle.gs_top.specs.Job.{input_of, output_of}
+use Rattle.gs_top.specs.Job.{IsRead, input_of, output_of}
 use Rattle.gs_top.specs.Kind.{Kind, Success, Unread, Refused, Unwritten, NoMemory, kind_of}
 use Rattle.gs_top.specs.Plan.{IsStored}
 use Rattle.gs_top.specs.Run.{StoredOf, LeavesBy, JobLeaves, WorkCausesBy, WorkCauses}
 use Rattle.gs_top.specs.Store.{Ends, Stops, StoreFails}
 use Rattle.gs_top.specs.declared.job.Job.{Job}
-use Rattle.gs_top.specs.declared.job.Job.TheVariants.{Size}
+use Rattle.gs_top.specs.declared.job.Job.TheVariants.{Size, Check}
 use Rattle.gs_top.specs.declared.plan.Plan.{Plan}
+use Rattle.gs_top.specs.declared.read.WordsErr.{WordsErr}
+use Rattle.gs_top.specs.declared.read.WordsErr.TheVariants as words_err
 use Rattle.gs_top.specs.declared.status.Output.{Output}
 use Rattle.gs_top.specs.declared.status.Output.TheVariants.{Console}
 use Rattle.gs_top.specs.declared.status.Status.{Status}
@@ -23,6 +25,7 @@ use Rattle.gs_top.proofs.Counts.{fell_on, fell_still, stay_on, rose_later}
 -- each command's success is one
 pub is_success : (job : Job) (s : Status) → (command_of job).succeeds s → kind_of s ≡ Success
 is_success (Size j) s h = ap kind_of h.1
+is_success (Check j) s h = ap kind_of h.2
 
 -- a file that was not written is no console
 pub kind_of_write : (to : Output) → to ≢ Console → kind_of (WriteFault to) ≡ Unwritten to
@@ -87,3 +90,8 @@ no_job tells o now s e is =
 pub no_names : (tells : Type 0) (o : Option Job) (job : Job) (now : Seen) → o ≡ Some job → ActsOf tells o now now OutOfMemory
 no_names tells o job now e =
     acts_of tells o (Some job) now now OutOfMemory e (record { leaves = inl (λ name. refl); causes = λ op name. refl; said = refl; later = fell_still now.faults now.faults (λ op name. refl) })
+
+-- the words make no job, or there is no memory for its names
+pub not_read : (tells : Type 0) (o : Option Job) (now : Seen) (e : WordsErr) (s : Status) → s ≡ words_status e → IsRead o (Err e) → ActsOf tells o now now s
+not_read tells o now words_err.Usage s is h = no_job tells o now s h is
+not_read tells o now words_err.Mem s is h = subst (ActsOf tells o now now) (sym is) (no_names tells o h.0 now h.1)

@@ -1,7 +1,8 @@
 -- Stages that are decided, one after another.
-use Rattle.std.proofs.Common.{◌≢◌, ◌∙◌, refl, sym, ap, subst, inl, inr, ◌⊎◌, ℕ, ◌<◌, ◌≤◌, List, length, arith}
+use Rattle.std.proofs.Common.{◌≢◌, ◌∙◌, refl, sym, ap, subst, inl, inr, ◌⊎◌, ℕ, ◌<◌, ◌≤◌, List, length, map, Option, None, Some, arith}
 use Rattle.std.proofs.lemmas.Bool.{cases_lt}
 use Rattle.gs_grammar.specs.Lawful.{IsLawful}
+use Rattle.gs_design.specs.Insts.{inst_first}
 use Rattle.gs_design.specs.declared.library.Library.{Library}
 use Rattle.gs_design.specs.declared.parts.Parts.{Parts}
 use Rattle.gs_design.specs.declared.units.Units.{Units}
@@ -19,6 +20,9 @@ use Rattle.gs_sdc.specs.Sdc as sdc
 use Rattle.gs_sdc.specs.Sdc.{IsSdc}
 use Rattle.gs_sdc.specs.Terms.{Terms}
 use Rattle.gs_sdc.specs.declared.error.SdcErr.TheVariants as sdc_err
+use Rattle.gs_sizes.specs.Refusal as sizes
+use Rattle.gs_sizes.specs.Sizes.{IsSizes}
+use Rattle.gs_sizes.specs.declared.error.SizesErr.TheVariants as sizes_err
 use Rattle.gs_spef.specs.Refusal as spef
 use Rattle.gs_spef.specs.Spef.{IsSpef}
 use Rattle.gs_spef.specs.declared.error.SpefErr.TheVariants as spef_err
@@ -34,11 +38,12 @@ use Rattle.gs_top.specs.Command.{inputs_of}
 use Rattle.gs_top.specs.Design.{LibertyCause, NetlistCause, SpefCause, SdcCause, LinkCause, liberty, library_in, library, netlist_text, spef_text, sdc_text, link, linked_with, design}
 use Rattle.gs_top.specs.Kind.{SameRefusal, cycle_aside}
 use Rattle.gs_top.specs.Law.{IsDecided, EachJobIsDecided}
-use Rattle.gs_top.specs.Refusal.{tree_status, lib_status, verilog_status, spef_status, sdc_status, link_status}
-use Rattle.gs_top.specs.Stage.{Bytes, Stage, and_then, judge, fetch, Caused}
-use Rattle.gs_top.specs.declared.job.Job.TheVariants.{Size}
+use Rattle.gs_top.specs.Refusal.{tree_status, lib_status, verilog_status, spef_status, sdc_status, sizes_status, link_status}
+use Rattle.gs_top.specs.Stage.{Bytes, Stage, and_then, give, judge, fetch, Caused}
+use Rattle.gs_top.specs.Start.{SizesCause, from_text, sized, start, start_in}
+use Rattle.gs_top.specs.declared.job.Job.TheVariants.{Size, Check}
 use Rattle.gs_top.specs.declared.status.Input.{Input}
-use Rattle.gs_top.specs.declared.status.Input.TheVariants.{Lib, Verilog, Spef, Sdc}
+use Rattle.gs_top.specs.declared.status.Input.TheVariants.{Lib, Verilog, Spef, Sdc, From}
 use Rattle.gs_top.specs.declared.status.Status.{Status}
 use Rattle.gs_top.specs.declared.status.Status.TheVariants.{TooLarge}
 use Rattle.gs_top.proofs.Linking.{one_status}
@@ -119,6 +124,15 @@ module _ (l : Library) (c : Circuit) (w : List Wire) (k : Terms) (law : IsLawful
     one_refusal = λ s t h k. ap cycle_aside k.3 ∙ one_status k.0 h.0 k.1 h.1 (law.one_cause h.0 k.0 h.1 h.2 k.1 k.2) ∙ sym (ap cycle_aside h.3);
   }
 
+-- what is given is decided
+decided_give : {V : Type 0} (x : V) (b : Bytes) → IsDecided (give x) b
+decided_give x b = record {
+  some = inl (x, refl);
+  apart = λ v s m h. h;
+  one_value = λ v w m n. n ∙ sym m;
+  one_refusal = λ s t h k. absurd h;
+}
+
 -- ## The stages of each command
 
 -- what each reader's law says, and that of the link
@@ -129,6 +143,7 @@ pub record Laws : Type 0 where
   pub wires : (bytes : List ℕ) → IsLawful spef_err.Mem (IsSpef bytes) (spef.HasCause bytes)
   pub constraints : (units : Units) (bytes : List ℕ) → IsLawful sdc_err.Mem (IsSdc units bytes) (sdc.HasCause units bytes)
   pub kept : (bytes : List ℕ) (c : Circuit) → IsVerilog bytes c → IsNetlist c
+  pub froms : (p : Parts) (bytes : List ℕ) → IsLawful sizes_err.Mem (IsSizes p bytes) (sizes.HasCause p bytes)
   pub links : (c : Circuit) (l : Library) (w : List Wire) (k : Terms) → IsNetlist c → IsLawfulUpToCycle (Linked c l w k) (linking.HasCause c l w k)
 
 module _ (laws : Laws) (b : Bytes) where
@@ -160,5 +175,18 @@ module _ (laws : Laws) (b : Bytes) where
   design_decided =
       decided_then library (λ l. and_then netlist_text (λ c. linked_with l c)) b library_decided (λ l m. decided_then netlist_text (λ c. linked_with l c) b netlist_decided (λ c n. linked_decided l c (laws.kept n.0 c n.2)))
 
+  from_decided : (p : Parts) → IsDecided (from_text p) b
+  from_decided p =
+      decided_then (fetch From) (λ bytes. judge (IsSizes p bytes) (SizesCause p bytes)) b (decided_fetch From b) (λ bytes m. decided_read sizes_err.Mem sizes_status (IsSizes p bytes) (sizes.HasCause p bytes) (laws.froms p bytes) b)
+
+  start_in_decided : (from : Option (List ℕ)) (p : Parts) → IsDecided (start_in from p) b
+  start_in_decided None p = decided_give (map inst_first p.insts) b
+  start_in_decided (Some name) p = from_decided p
+
+  start_decided : (from : Option (List ℕ)) → IsDecided (start from) b
+  start_decided from =
+      decided_then design (λ p. and_then (start_in from p) (λ s. give (sized p s))) b design_decided (λ p m. decided_then (start_in from p) (λ s. give (sized p s)) b (start_in_decided from p) (λ s n. decided_give (sized p s) b))
+
 pub each_job : Laws → EachJobIsDecided
 each_job laws (Size j) files = design_decided laws (inputs_of (Size j) files)
+each_job laws (Check j) files = start_decided laws (inputs_of (Check j) files) j.from

@@ -3,10 +3,11 @@ use Rattle.std.proofs.Common.{◌≡◌, ◌≢◌, refl, sym, subst, ℕ, ◌<�
 use Rattle.std.specs.List.{list_any}
 use Rattle.std.specs.Str.{bytes_eq}
 use Rattle.std.proofs.lemmas.Slice.Eq.{bytes_eq-Decides}
-use Rattle.gs_top.specs.Job.{are_given, are_names, is_good, output_of, is_size, size_of, size_with, size_options, value_of}
+use Rattle.gs_top.specs.Job.{are_given, are_names, check_of, check_with, has_check_form, is_check, is_good, output_of, is_size, size_of, size_with, size_options, value_of}
 use Rattle.gs_top.specs.Plan.{AllDiffer}
 use Rattle.gs_top.specs.declared.status.Output.TheVariants.{Sizes, Report}
-use Rattle.gs_top.specs.declared.job.Job.TheVariants.{Size}
+use Rattle.gs_top.specs.declared.job.Job.TheVariants.{Size, Check}
+use Rattle.gs_top.specs.declared.job.CheckJob.{CheckJob}
 use Rattle.gs_top.specs.declared.job.SizeJob.{SizeJob}
 
 -- too few words for an option
@@ -33,6 +34,17 @@ size_good ws j h e =
 
 pub size_made : (ws : List (List ℕ)) → is_size ws ≡ true → size_of ws ≡ Some (Size (size_with ws))
 size_made ws h = rw h refl
+
+pub check_good : (ws : List (List ℕ)) (j : CheckJob) → is_check ws ≡ true → j ≡ check_with ws → is_good (Check j) ≡ true
+check_good ws j h e =
+    subst (λ x. is_good (Check x) ≡ true) (sym e) (both (has_check_form ws) (is_good (Check (check_with ws))) h)
+
+pub check_made : (ws : List (List ℕ)) → is_check ws ≡ true → check_of ws ≡ Some (Check (check_with ws))
+check_made ws h = rw h refl
+
+-- the one output of `check`
+pub report_differs : (j : CheckJob) → AllDiffer (output_of (Check j)) (Report ∷ [])
+report_differs j = ((λ e. cc), tt, tt)
 
 -- the names after the first are names too
 rest_good : (n : List ℕ) (ns : List (List ℕ)) → are_names (n ∷ ns) ≡ true → are_names ns ≡ true

@@ -2,7 +2,6 @@ pub mod Acting
 pub mod Counts
 pub mod Deciding
 pub mod Fetching
-pub mod Leaks
 pub mod Linking
 pub mod Naming
 pub mod Planning

@@ -6,7 +6,7 @@ use Rattle.std.proofs.lemmas.List.{length-map}
 use Rattle.std.proofs.lemmas.Bool.Decides.{nat_tests}
 use Rattle.std.proofs.lemmas.Slice.Eq.{bytes_eq-Decides}
 use Rattle.gs_design.specs.Cells.{cell_at, no_cell}
-use Rattle.gs_design.specs.Insts.{Inst, inst_at, no_inst}
+use Rattle.gs_design.specs.Insts.{Inst, inst_at, inst_first, no_inst}
 use Rattle.gs_design.specs.Parts.{parts_of}
 use Rattle.gs_design.specs.Sizes.{cell_of, netlist_sizes}
 use Rattle.gs_design.specs.declared.design.Design.{Design}
@@ -18,8 +18,26 @@ use Rattle.gs_survey.specs.Counts.{choices_of}
 use Rattle.gs_survey.specs.Instances.{cell_number}
 use Rattle.gs_verilog.specs.Circuit.{Circuit}
 use Rattle.gs_verilog.specs.declared.parts.RawInst.{RawInst}
-use Rattle.gs_top.specs.Texts.{netlist_line, size_line, sizes_line, sizes_text}
-use Rattle.gs_top.proofs.Leaks.{cell_in, first_at}
+use Rattle.gs_sizes.specs.Written.{line_text, sizes_text}
+use Rattle.gs_top.specs.Law.{netlist_line}
+
+-- a name, a space, a cell, a newline
+abbrev named_line : (name cell : List ℕ) → List ℕ
+named_line name cell = name ++ 32 ∷ cell ++ 10 ∷ []
+
+first_by : (insts : List Inst) (g : ℕ) → slice_index (map inst_first insts) g ≡ (inst_at insts g).first
+first_by [] g = refl
+first_by (i ∷ is) zero = refl
+first_by (i ∷ is) (suc g) = first_by is g
+
+-- the place of the netlist's cell
+first_at : (d : Design) (g : ℕ) → slice_index (netlist_sizes d) g ≡ (inst_at d.insts g).first
+first_at d g = first_by d.insts g
+
+cell_in : (d : Design) (g : ℕ) → g < length d.insts → slice_index (inst_at d.insts g).alts (inst_at d.insts g).first < length d.cells
+cell_in d g lt =
+    let kept = d.well.alts g lt in
+    kept.cells_in (inst_at d.insts g).first 0 kept.first_in
 
 -- what stands at the first place that passes
 found : {X : Type 0} (p : X → Bool) (xs : List X) (other : X) → position_or_len p xs < length xs → p (slice_index_or xs (position_or_len p xs) other) ≡ true
@@ -87,12 +105,12 @@ module _ (c : Circuit) (l : Library) (w : List Wire) (k : Terms) (d : Design) (i
         let named : (raw_at c.insts g).cell ≡ (cell_at l.cells number).name = (bytes_eq-Decides (raw_at c.insts g).cell (cell_at l.cells number).name).0 passes in
         ap (λ p. (cell_at d.cells (slice_index (inst_at d.insts g).alts p)).name) (first_at d g) ∙ ap (λ n. (cell_at d.cells n).name) number_is ∙ ap (λ cs. (cell_at cs number).name) is.cells ∙ sym named
 
-    line_is : sizes_line d (netlist_sizes d) g ≡ netlist_line (raw_at c.insts g)
-    line_is = ap (λ cell. size_line (inst_at d.insts g).name cell) name_is ∙ ap (λ (x : Inst). size_line x.name (raw_at c.insts g).cell) (inst_is g lt)
+    line_is : line_text d (netlist_sizes d) g ≡ netlist_line (raw_at c.insts g)
+    line_is = ap (λ cell. named_line (inst_at d.insts g).name cell) name_is ∙ ap (λ (x : Inst). named_line x.name (raw_at c.insts g).cell) (inst_is g lt)
 
   -- the sizes of a linked design are the netlist's
   pub text_is : sizes_text d (netlist_sizes d) ≡ flat_map netlist_line c.insts
   text_is =
       let here : (g : ℕ) → 0 + g ≡ g = λ g. omega arith in
-      ap (λ n. flat_map (sizes_line d (netlist_sizes d)) (range_with_len 0 n)) many
-      ∙ by_place (sizes_line d (netlist_sizes d)) netlist_line no_raw c.insts 0 (λ g lt. ap (sizes_line d (netlist_sizes d)) (here g) ∙ line_is g lt)
+      ap (λ n. flat_map (line_text d (netlist_sizes d)) (range_with_len 0 n)) many
+      ∙ by_place (line_text d (netlist_sizes d)) netlist_line no_raw c.insts 0 (λ g lt. ap (line_text d (netlist_sizes d)) (here g) ∙ line_is g lt)

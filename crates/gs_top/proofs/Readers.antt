@@ -6,13 +6,15 @@ use Rattle.gs_libtree.specs.declared.error.LibTextErr.{LibTextErr}
 use Rattle.gs_libtree.specs.declared.error.LibTextErr.TheVariants as tree
 use Rattle.gs_sdc.specs.declared.error.SdcErr.{SdcErr}
 use Rattle.gs_sdc.specs.declared.error.SdcErr.TheVariants as sdc
+use Rattle.gs_sizes.specs.declared.error.SizesErr.{SizesErr}
+use Rattle.gs_sizes.specs.declared.error.SizesErr.TheVariants as sizes
 use Rattle.gs_spef.specs.declared.error.SpefErr.{SpefErr}
 use Rattle.gs_spef.specs.declared.error.SpefErr.TheVariants as spef
 use Rattle.gs_verilog.specs.declared.error.VerilogErr.{VerilogErr}
 use Rattle.gs_verilog.specs.declared.error.VerilogErr.TheVariants as verilog
 use Rattle.gs_top.specs.Answer.{Settles}
 use Rattle.gs_top.specs.Kind.{IsRefusal, SameRefusal, cycle_aside}
-use Rattle.gs_top.specs.Refusal.{tree_status, lib_status, verilog_status, spef_status, sdc_status}
+use Rattle.gs_top.specs.Refusal.{tree_status, lib_status, verilog_status, spef_status, sdc_status, sizes_status}
 use Rattle.gs_top.specs.Stage.{Caused}
 use Rattle.gs_top.specs.declared.status.Status.{Status}
 use Rattle.gs_top.specs.declared.status.Status.TheVariants.{OutOfMemory}
@@ -81,3 +83,11 @@ sdc_split (sdc.TwoClocks i) = inr (λ h. cc, record { kind = refl; no_mem = tt }
 sdc_split (sdc.TwoValues i) = inr (λ h. cc, record { kind = refl; no_mem = tt })
 sdc_split (sdc.NoClock i) = inr (λ h. cc, record { kind = refl; no_mem = tt })
 sdc_split sdc.Mem = inl refl
+
+pub sizes_split : (e : SizesErr) → Split sizes.Mem sizes_status e
+sizes_split (sizes.BadLine i) = inr (λ h. cc, record { kind = refl; no_mem = tt })
+sizes_split (sizes.Unknown i) = inr (λ h. cc, record { kind = refl; no_mem = tt })
+sizes_split (sizes.Twice i) = inr (λ h. cc, record { kind = refl; no_mem = tt })
+sizes_split (sizes.WrongCell i) = inr (λ h. cc, record { kind = refl; no_mem = tt })
+sizes_split (sizes.Absent name i) = inr (λ h. cc, record { kind = refl; no_mem = tt })
+sizes_split sizes.Mem = inl refl

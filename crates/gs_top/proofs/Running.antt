@@ -4,12 +4,12 @@ use Rattle.std.proofs.lemmas.List.{append-nil}
 use Rattle.gs_shelf.specs.Faults.{Counts, CountsStay, NoneFell, Rose}
 use Rattle.gs_shelf.specs.Files.{Files, AllStay, GrewByPart}
 use Rattle.gs_shelf.specs.declared.calls.Op.TheVariants.{Fetch, Store, Say}
-use Rattle.gs_top.specs.Act.{Acts, ActsOf, Declines}
+use Rattle.gs_top.specs.Act.{Acts, ActsOf, Declines, Ran}
 use Rattle.gs_top.specs.Answer.{Seen}
 use Rattle.gs_top.specs.Job.{input_of, output_of}
 use Rattle.gs_top.specs.Kind.{Kind, Success, NoJob, Unread, Refused, Unwritten, Unsaid, NoMemory, kind_of}
 use Rattle.gs_top.specs.Line.{line_of, unsaid, unsaid_by, Ended, Whole, Failed, NoRoom, IsSaid}
-use Rattle.gs_top.specs.Run.{StoredOf, FirstRefusalOf, IsAccepted, LeavesBy, JobLeaves, LeavesOf, WorkCausesBy, WorkCauses, StillButSaying, CausesBy, CausesOf, NoneRose, IsDone, FirstRefusalBy, AnswersBy, AnswersRefusal, SaysLine, SaysBy, SaysOf}
+use Rattle.gs_top.specs.Run.{StoredOf, FirstRefusalOf, IsAccepted, LeavesBy, JobLeaves, WorkCausesBy, WorkCauses, StillButSaying, CausesBy, NoneRose, IsDone, FirstRefusalBy, AnswersBy, AnswersRefusal, SaysLine, SaysBy}
 use Rattle.gs_top.specs.declared.job.Job.{Job}
 use Rattle.gs_top.specs.declared.status.Output.{Output}
 use Rattle.gs_top.specs.declared.status.Output.TheVariants.{Console}
@@ -110,14 +110,6 @@ module _ (tells : Type 0) (job : Job) (old mid new : Seen) (s : Status) (acts : 
         silent = λ is. none;
       })
 
--- the same of words that make this job, or none
-pub record Ran (tells : Type 0) (o : Option Job) (old new : Seen) (r : Status) : Type 0 where
-  pub leaves : LeavesOf tells o old.files new.files r
-  pub causes : CausesOf tells o old.files new.files old.faults new.faults r
-  pub says : tells → SaysOf tells o old.files new.files old.faults new.faults old.said new.said r
-  pub silent : r ≡ OutOfMemory → new.said ≡ old.said
-  pub later : NoneFell old.faults new.faults
-
 apart : (r : Status) → r ≡ Usage → r ≡ OutOfMemory → ⊥
 apart r e h = cc
 
@@ -160,6 +152,10 @@ ran tells None old mid new s r d h = declined_by tells old mid new s r d h.stay 
 ran tells (Some job) old mid new s r acts h =
     let runs = ended_by tells job old mid new s acts r h.stay h.later h.ended in
     record { leaves = runs.leaves; causes = runs.causes; says = runs.says; silent = runs.silent; later = fell_on old.faults mid.faults new.faults acts.later h.later }
+
+-- the words make this job, or none
+pub ran_of : (tells : Type 0) (o p : Option Job) (old new : Seen) (r : Status) → o ≡ p → Ran tells p old new r → Ran tells o old new r
+ran_of tells o p old new r e h = subst (λ x. Ran tells x old new r) (sym e) h
 
 -- ## What comes where nothing fails
 

@@ -1,10 +1,10 @@
 -- Stages one after another: what their calls answer together.
-use Rattle.std.proofs.Common.{◌≡◌, ◌∙◌, refl, subst, inl, inr, ℕ, ◌≤◌, List, Result, Ok, Err, arith}
+use Rattle.std.proofs.Common.{◌≡◌, ◌∙◌, refl, sym, subst, inl, inr, ℕ, ◌≤◌, List, Result, Ok, Err, arith}
 use Rattle.gs_shelf.specs.Faults.{Counts, CountsStay, NoneFell}
 use Rattle.gs_shelf.specs.Files.{Files}
 use Rattle.gs_shelf.specs.declared.calls.Op.TheVariants.{Fetch}
 use Rattle.gs_top.specs.Answer.{Seen, IsMade, IsRefused, Settles, Stopped, ByMemory, ByFault, ByRefusal, Answers, Unfetched, Works}
-use Rattle.gs_top.specs.Stage.{Bytes, Stage, bytes_of, and_then, judge}
+use Rattle.gs_top.specs.Stage.{Bytes, Stage, bytes_of, and_then, give, judge}
 use Rattle.gs_top.specs.declared.status.Input.{Input}
 use Rattle.gs_top.specs.declared.status.Status.{Status}
 use Rattle.gs_top.proofs.Counts.{rose_later, fell_on, stay_on}
@@ -98,3 +98,12 @@ settled {tells = tells} {names = names} {now = now} {r = r} Is Cause h = record 
 pub settled_on : {B V : Type 0} {tells : Type 0} {names : Input → List ℕ} {now : Seen} {r : Result V Status} {b c : B} (Is : B → V → Type 0) (Cause : B → Status → Type 0)
     → b ≡ c → Settles (Is b) (Cause b) r → Works tells (judge (Is c) (Cause c)) names now now r
 settled_on {r = r} {c = c} Is Cause e h = settled (Is c) (Cause c) (subst (λ x. Settles (Is x) (Cause x) r) e h)
+
+-- what is given is made
+pub given : {V : Type 0} {tells : Type 0} {names : Input → List ℕ} {now : Seen} (v : V) → Works tells (give v) names now now (Ok v)
+given v = settled (λ w. w ≡ v) (λ s. ⊥) (record { stands = refl; only = λ w h. h; accepted = λ s h. h })
+
+-- the stage of a choice is that of the case that stands
+pub chosen : {C V : Type 0} {tells : Type 0} {names : Input → List ℕ} {old new : Seen} {r : Result V Status} {chosen here : C} (at : C → Stage V)
+    → chosen ≡ here → Works tells (at here) names old new r → Works tells (at chosen) names old new r
+chosen {tells = tells} {names = names} {old = old} {new = new} {r = r} at e h = subst (λ c. Works tells (at c) names old new r) (sym e) h

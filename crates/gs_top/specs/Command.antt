@@ -1,26 +1,31 @@
 -- The commands: the stages of each, and what it stores of what they make.
-use Rattle.std.specs.Prelude.{◌≡◌, ℕ, List, [], ◌∷◌, length, Result, Ok, Err}
+use Rattle.std.specs.Prelude.{◌≡◌, ℕ, ℤ, List, [], ◌∷◌, length, Option, None, Result, Ok, Err}
 use Rattle.gs_design.specs.Parts.{parts_of}
-use Rattle.gs_design.specs.Sizes.{netlist_sizes}
+use Rattle.gs_design.specs.Limits.{violations_of}
+use Rattle.gs_design.specs.Sizes.{leak_of, netlist_sizes}
+use Rattle.gs_design.specs.Timing.{IsTiming}
 use Rattle.gs_design.specs.declared.design.Design.{Design}
 use Rattle.gs_design.specs.declared.parts.Parts.{Parts}
+use Rattle.gs_design.specs.declared.time.NetTime.{NetTime}
+use Rattle.gs_report.specs.Report.{report_text}
 use Rattle.gs_shelf.specs.Faults.{NoneFell, CountsStay}
 use Rattle.gs_shelf.specs.Files.{Files, AllStay}
+use Rattle.gs_sizes.specs.Written.{sizes_text}
 use Rattle.gs_top.specs.Answer.{Seen, IsMade, Stopped, Unfetched}
 use Rattle.gs_top.specs.Design.{design}
 use Rattle.gs_top.specs.Job.{input_of}
 use Rattle.gs_top.specs.Plan.{outputs_in}
 use Rattle.gs_top.specs.Stage.{Bytes, Stage, bytes_of}
-use Rattle.gs_top.specs.Texts.{sizes_text, report_text}
+use Rattle.gs_top.specs.Start.{Sized, start}
 use Rattle.gs_top.specs.declared.job.Job.{Job}
-use Rattle.gs_top.specs.declared.job.Job.TheVariants.{Size}
+use Rattle.gs_top.specs.declared.job.Job.TheVariants.{Size, Check}
 use Rattle.gs_top.specs.declared.plan.Plan.{Plan}
 use Rattle.gs_top.specs.declared.plan.Text.{Text}
 use Rattle.gs_top.specs.declared.status.Input.{Input}
 use Rattle.gs_top.specs.declared.status.Output.{Output}
 use Rattle.gs_top.specs.declared.status.Output.TheVariants.{Sizes, Report}
 use Rattle.gs_top.specs.declared.status.Status.{Status}
-use Rattle.gs_top.specs.declared.status.Status.TheVariants.{Written}
+use Rattle.gs_top.specs.declared.status.Status.TheVariants.{Written, Checked}
 
 pub record Command : Type 1 where
   pub Made : Type 0
@@ -36,11 +41,18 @@ pub record Command : Type 1 where
 abbrev pub text : Output → List ℕ → Text
 text to bytes = record { to = to; bytes = bytes }
 
--- the sizes and the report of a design as its netlist sizes it, and how many instances were written
-abbrev pub size_plan : Design → Plan
-size_plan d = record {
-  texts = text Sizes (sizes_text d (netlist_sizes d)) ∷ text Report (report_text d (netlist_sizes d)) ∷ [];
+-- the sizes and the report of a design as its netlist sizes it, at this timing, and how many instances were written
+abbrev pub size_plan : Design → List NetTime → Plan
+size_plan d t = record {
+  texts = text Sizes (sizes_text d (netlist_sizes d)) ∷ text Report (report_text d (netlist_sizes d) t None) ∷ [];
   success = Written (length d.insts);
+}
+
+-- the report of sizes of a design at this timing, how many limits are not met, and what the sizes leak
+abbrev pub check_plan : Design → List ℕ → List NetTime → Plan
+check_plan d s t = record {
+  texts = text Report (report_text d s t None) ∷ [];
+  success = Checked (length (violations_of d t)) (leak_of d s);
 }
 
 abbrev pub size : Command
@@ -48,12 +60,22 @@ size = record {
   Made = Parts;
   work = design;
   outputs = Sizes ∷ Report ∷ [];
-  plans = λ parts plan. (d : Design) × (parts_of d ≡ parts) × (plan ≡ size_plan d);
+  plans = λ parts plan. (d : Design) × (parts_of d ≡ parts) × (t : List NetTime) × IsTiming d (netlist_sizes d) t × (plan ≡ size_plan d t);
   succeeds = λ s. (instances : ℕ) × (s ≡ Written instances);
+}
+
+abbrev pub check : Option (List ℕ) → Command
+check from = record {
+  Made = Sized;
+  work = start from;
+  outputs = Report ∷ [];
+  plans = λ m plan. (d : Design) × (parts_of d ≡ m.parts) × (t : List NetTime) × IsTiming d m.sizes t × (plan ≡ check_plan d m.sizes t);
+  succeeds = λ s. (violations : ℕ) × (leakage : ℤ) × (s ≡ Checked violations leakage);
 }
 
 abbrev pub command_of : Job → Command
 command_of (Size j) = size
+command_of (Check j) = check j.from
 
 -- the bytes of the files that a job reads
 abbrev pub inputs_of : Job → Files → Bytes

@@ -11,5 +11,5 @@ pub mod Plan
 pub mod Refusal
 pub mod Run
 pub mod Stage
+pub mod Start
 pub mod Store
-pub mod Texts

@@ -2,6 +2,7 @@
 use Rattle.std.specs.Prelude.{◌≡◌, ◌≢◌, ℕ, List, [], ◌++◌, codes, decimal}
 use Rattle.gs_lib.specs.declared.error.LibErr.{LibErr}
 use Rattle.gs_lib.specs.declared.error.LibErr.TheVariants as lib
+use Rattle.gs_quantity.specs.Print.{micro_text}
 use Rattle.gs_shelf.specs.Faults.{CountsStay, NoneFell, Rose}
 use Rattle.gs_shelf.specs.Files.{AllStay, GrewByPart}
 use Rattle.gs_shelf.specs.declared.calls.Op.TheVariants.{Say}
@@ -14,15 +15,16 @@ use Rattle.gs_survey.specs.declared.error.LinkErr.TheVariants as link
 use Rattle.gs_top.specs.declared.status.Output.{Output}
 use Rattle.gs_top.specs.declared.status.Output.TheVariants.{Sizes, Report, Console}
 use Rattle.gs_top.specs.declared.status.TextWhy.{TextWhy}
-use Rattle.gs_top.specs.declared.status.TextWhy.TheVariants.{OpenString, OpenComment, TooDeep, BadPiece, TwoNames, NoEnd, BadLine, Distributed, UnknownIndex, TwoNets, NotBuilt, TwoClocks, TwoValues, NoClock}
+use Rattle.gs_top.specs.declared.status.TextWhy.TheVariants.{OpenString, OpenComment, TooDeep, BadPiece, TwoNames, NoEnd, BadLine, Distributed, UnknownIndex, TwoNets, NotBuilt, TwoClocks, TwoValues, NoClock, Unknown, Twice, WrongCell, Absent}
 use Rattle.gs_top.specs.declared.status.Status.{Status}
-use Rattle.gs_top.specs.declared.status.Status.TheVariants.{Written, Usage, ReadFault, TooLarge, BadText, BadLibrary, BadDesign, WriteFault, OutOfMemory}
+use Rattle.gs_top.specs.declared.status.Status.TheVariants.{Written, Checked, Usage, ReadFault, TooLarge, BadText, BadLibrary, BadDesign, WriteFault, OutOfMemory}
 
 abbrev pub input_name : Input → List ℕ
 input_name input.Lib = codes "library"
 input_name input.Verilog = codes "netlist"
 input_name input.Spef = codes "spef"
 input_name input.Sdc = codes "sdc"
+input_name input.From = codes "from"
 
 -- each reason is its variant's name in lower case
 abbrev pub why_name : TextWhy → List ℕ
@@ -40,6 +42,10 @@ why_name NotBuilt = codes "notbuilt"
 why_name TwoClocks = codes "twoclocks"
 why_name TwoValues = codes "twovalues"
 why_name NoClock = codes "noclock"
+why_name Unknown = codes "unknown"
+why_name Twice = codes "twice"
+why_name WrongCell = codes "wrongcell"
+why_name Absent = codes "absent"
 
 abbrev pub lib_name : LibErr → List ℕ
 lib_name (lib.Missing cell what) = codes "missing"
@@ -73,6 +79,8 @@ write_line Console = []
 -- each status but want of memory and a fault of the console has one line
 abbrev pub line_of : Status → List ℕ
 line_of (Written instances) = codes "written " ++ decimal instances ++ codes "\n"
+line_of (Checked violations leakage) =
+    codes "checked leakage " ++ micro_text leakage ++ codes " violations " ++ decimal violations ++ codes "\n"
 line_of Usage = codes "usage: gate-sizer size, check, audit or gen, with options\n"
 line_of (ReadFault file) = codes "cannot read " ++ input_name file ++ codes "\n"
 line_of (TooLarge file) = codes "too large " ++ input_name file ++ codes "\n"

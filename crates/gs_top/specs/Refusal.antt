@@ -9,13 +9,15 @@ use Rattle.gs_sdc.specs.declared.error.SdcErr.{SdcErr}
 use Rattle.gs_sdc.specs.declared.error.SdcErr.TheVariants as sdc
 use Rattle.gs_shelf.specs.declared.whole.FetchErr.{FetchErr}
 use Rattle.gs_shelf.specs.declared.whole.FetchErr.TheVariants as fetch
+use Rattle.gs_sizes.specs.declared.error.SizesErr.{SizesErr}
+use Rattle.gs_sizes.specs.declared.error.SizesErr.TheVariants as sizes
 use Rattle.gs_spef.specs.declared.error.SpefErr.{SpefErr}
 use Rattle.gs_spef.specs.declared.error.SpefErr.TheVariants as spef
 use Rattle.gs_verilog.specs.declared.error.VerilogErr.{VerilogErr}
 use Rattle.gs_verilog.specs.declared.error.VerilogErr.TheVariants as verilog
 use Rattle.gs_top.specs.declared.status.Input.{Input}
-use Rattle.gs_top.specs.declared.status.Input.TheVariants.{Lib, Verilog, Spef, Sdc}
-use Rattle.gs_top.specs.declared.status.TextWhy.TheVariants.{OpenString, OpenComment, TooDeep, BadPiece, TwoNames, NoEnd, BadLine, Distributed, UnknownIndex, TwoNets, NotBuilt, TwoClocks, TwoValues, NoClock}
+use Rattle.gs_top.specs.declared.status.Input.TheVariants.{Lib, Verilog, Spef, Sdc, From}
+use Rattle.gs_top.specs.declared.status.TextWhy.TheVariants.{OpenString, OpenComment, TooDeep, BadPiece, TwoNames, NoEnd, BadLine, Distributed, UnknownIndex, TwoNets, NotBuilt, TwoClocks, TwoValues, NoClock, Unknown, Twice, WrongCell, Absent}
 use Rattle.gs_top.specs.declared.status.Status.{Status}
 use Rattle.gs_top.specs.declared.status.Status.TheVariants.{ReadFault, TooLarge, BadText, BadLibrary, BadDesign, OutOfMemory}
 
@@ -76,6 +78,15 @@ link_status (link.NoArc cell pin) = BadDesign (link.NoArc cell pin)
 link_status (link.TooMany what count) = BadDesign (link.TooMany what count)
 link_status (link.Loop cycle) = BadDesign (link.Loop cycle)
 link_status link.Mem = OutOfMemory
+
+-- of a text of sizes
+abbrev pub sizes_status : SizesErr → Status
+sizes_status (sizes.BadLine i) = BadText From BadLine i
+sizes_status (sizes.Unknown i) = BadText From Unknown i
+sizes_status (sizes.Twice i) = BadText From Twice i
+sizes_status (sizes.WrongCell i) = BadText From WrongCell i
+sizes_status (sizes.Absent name i) = BadText From Absent i
+sizes_status sizes.Mem = OutOfMemory
 
 -- why a file was not fetched
 abbrev pub fetch_status : Input → FetchErr → Status

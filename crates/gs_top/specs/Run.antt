@@ -92,10 +92,13 @@ CausesBy tells job old left before now s Unsaid = Rose (before Say []) (now Say 
 CausesBy tells job old left before now s NoMemory = (t : Status) × IsWorkOf tells job old left before now t
 CausesBy tells job old left before now s kind = WorkCausesBy job before now s kind
 
+abbrev pub JobCauses : (tells : Type 0) → Job → (old left : Files) → (before now : Counts) → Status → Type 0
+JobCauses tells job old left before now s = CausesBy tells job old left before now s (kind_of s)
+
 -- words that make no job are refused, unless memory for that line ran out
 abbrev pub CausesOf : (tells : Type 0) → Option Job → (old left : Files) → (before now : Counts) → Status → Type 0
 CausesOf tells None old left before now s = ((s ≡ Usage) × StillButSaying before now) ⊎ ((s ≡ OutOfMemory) × CountsStay before now)
-CausesOf tells (Some job) old left before now s = CausesBy tells job old left before now s (kind_of s)
+CausesOf tells (Some job) old left before now s = JobCauses tells job old left before now s
 
 -- `Usage` comes exactly where the words make no job, a fault only where its count rose, and all else with no fault but of the console
 abbrev pub Causes : (tells : Type 0) → List (List ℕ) → (old left : Files) → (before now : Counts) → Status → Type 0
@@ -143,9 +146,12 @@ SaysBy tells job old left before now said saying s Unsaid =
 SaysBy tells job old left before now said saying s NoMemory = saying ≡ said
 SaysBy tells job old left before now said saying s kind = SaysLine (line_of s) before now said saying
 
+abbrev pub JobSays : (tells : Type 0) → Job → Files → Files → Counts → Counts → (said saying : List ℕ) → Status → Type 0
+JobSays tells job old left before now said saying s = SaysBy tells job old left before now said saying s (kind_of s)
+
 abbrev pub SaysOf : (tells : Type 0) → Option Job → Files → Files → Counts → Counts → (said saying : List ℕ) → Status → Type 0
 SaysOf tells None old left before now said saying s = SaysLine (line_of s) before now said saying
-SaysOf tells (Some job) old left before now said saying s = SaysBy tells job old left before now said saying s (kind_of s)
+SaysOf tells (Some job) old left before now said saying s = JobSays tells job old left before now said saying s
 
 -- what was said after a run with these words
 abbrev pub Says : (tells : Type 0) → List (List ℕ) → Files → Files → Counts → Counts → (said saying : List ℕ) → Status → Type 0

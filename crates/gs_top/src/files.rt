@@ -1,7 +1,20 @@
 //! The files of a job, by what each is to the command.
+ghost use Rattle.std.specs.Prelude.{◌≡◌};
+ghost use Rattle.gs_top.specs.Job.{name_or_none};
 
-use crate::job::SizeJob;
+use crate::job::{CheckJob, SizeJob};
+use crate::name::Name;
 use crate::status::{Input, Output};
+
+/// A name that may be left out; empty where it is.
+fn text_or_none(name: &Option<Name>) -> &str
+    ensures { result.now ≡ name_or_none name.now }
+{
+    match name {
+        Some(name) => name.as_str(),
+        None => "",
+    }
+}
 
 /// A job, as the stages and the stores see it: the names of its files.
 pub(crate) trait JobFiles {
@@ -36,6 +49,7 @@ impl JobFiles for SizeJob {
             Input::Verilog => self.verilog.as_str(),
             Input::Spef => self.spef.as_str(),
             Input::Sdc => self.sdc.as_str(),
+            Input::From => "",
         }
     }
 
@@ -44,6 +58,32 @@ impl JobFiles for SizeJob {
             Output::Sizes => self.sizes.as_str(),
             Output::Report => self.report.as_str(),
             Output::Console => "",
+        }
+    }
+}
+
+impl JobFiles for CheckJob {
+    ghost use Rattle.gs_top.specs.Job.{input_of, output_of};
+    ghost use Rattle.gs_top.specs.declared.job.Job.TheVariants.{Check};
+
+    ghost inputs = { λ job. input_of (Check job) };
+
+    ghost outputs = { λ job. output_of (Check job) };
+
+    fn input(&self, file: Input) -> &str {
+        match file {
+            Input::Lib => self.lib.as_str(),
+            Input::Verilog => self.verilog.as_str(),
+            Input::Spef => self.spef.as_str(),
+            Input::Sdc => self.sdc.as_str(),
+            Input::From => text_or_none(&self.from),
+        }
+    }
+
+    fn output(&self, to: Output) -> &str {
+        match to {
+            Output::Report => self.report.as_str(),
+            Output::Sizes | Output::Console => "",
         }
     }
 }

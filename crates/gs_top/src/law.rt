@@ -12,6 +12,7 @@ pub fn each_job_is_decided()
     gs_verilog::each_netlist_is_kept();
     gs_spef::each_text_is_decided();
     gs_sdc::each_text_is_decided();
+    gs_sizes::each_text_is_decided();
     gs_link::each_design_is_decided();
 }
 

@@ -1,6 +1,6 @@
 //! The commands of `gate-sizer`: words in, files read and stored, one line said, one status answered.
 //!
-//! [`run`] does what the words say. Its contract is the headline of the project as far as it is built: what every file
+//! [`run`] does what the words say, and [`run_check`] what a job of `check` says. Their contract is the headline of the project as far as it is built: what every file
 //! holds after each status, as far as the shelf tells, and which files stay on every shelf (`Leaves`); what stands behind
 //! each status on every shelf (`Causes`); what was said (`Says`); and, but for a fault of the shelf or want of memory, that a
 //! job whose files make what its command is to make succeeds, and that the first refusal that the words and the bytes decide
@@ -11,7 +11,7 @@
 //! the first is stored. Everything else is said of any command, by the kind of its status.
 //!
 //! - `specs/Job.antt`: the form of the words, and the condition of a job. `specs/Stage.antt`: stages and how they follow one
-//!   another. `specs/Design.antt`: the stages of a design. `specs/Command.antt`: the commands. `specs/Texts.antt`: their texts.
+//!   another. `specs/Design.antt`: the stages of a design, `specs/Start.antt` those of its sizes. `specs/Command.antt`: the commands.
 //! - `specs/Plan.antt`: what is stored, whole or in part. `specs/Kind.antt`: kinds of statuses, and when two refusals are one.
 //!   `specs/Run.antt`: what a run leaves, why, and what it says. `specs/Law.antt`: each job is decided by the bytes of its files, and
 //!   the sizes that are written are the netlist's.
@@ -27,12 +27,15 @@
 //! `Job` with its options, a `Command`, and two functions as in `size.rt`.
 #![tactic(auto)]
 
+mod check;
+#[cfg(test)]
+mod check_tests;
 mod constraints;
 mod fetch;
 mod files;
+mod from;
 mod job;
 mod law;
-mod leak;
 mod library;
 #[cfg(test)]
 mod library_tests;
@@ -47,7 +50,6 @@ mod read;
 #[cfg(test)]
 mod samples;
 mod size;
-mod sizes;
 mod status;
 mod store;
 #[cfg(test)]
@@ -55,10 +57,10 @@ mod tests;
 mod wires;
 mod words;
 
-pub use job::{Job, SizeJob};
+pub use job::{CheckJob, Job, SizeJob};
 pub use law::{each_job_is_decided, each_size_is_the_netlists};
 pub use name::Name;
-pub use program::run;
+pub use program::{run, run_check};
 pub use read::{WordsErr, read_words};
 pub use status::{Input, Output, Status, TextWhy, exit_of};
 pub use words::Words;

@@ -58,7 +58,8 @@ fn names_of_300_bytes_and_a_unit_of_16(rt: HostRuntime) -> Result<(), Fail> {
     netlist.extend_from_slice(around_name(alloc, b"", b" (.a(x), .o(z)); endmodule")?.as_slice())?;
     let mut sizes = around_name(alloc, b"", b" ")?;
     sizes.extend_from_slice(around_name(alloc, b"", b"\n")?.as_slice())?;
-    let report = b"gate-sizing-report 1\nleakage 1.000000 1234567890abcdef\n";
+    let report =
+        b"gate-sizing-report 1\nleakage 1.000000 1234567890abcdef\nviolations 1\nsetup z held 4.000000 bound 1.000000\n";
     assert!(rt;
         writes(
             alloc,

@@ -1,10 +1,12 @@
 //! The line that is said of a status.
 ghost use Rattle.std.specs.Prelude.{◌≡◌, ◌++◌, IfOk, OnOk, codes, decimal};
+ghost use Rattle.gs_quantity.specs.Print.{micro_text};
 ghost use Rattle.gs_top.specs.Line.{input_name, lib_name, line_of, link_name, why_name, write_line};
 
 use crate::status::{Input, Output, Status, TextWhy};
 use gs_lib::LibErr;
 use gs_link::LinkErr;
+use gs_quantity::{Mem, Micro, print_micro};
 use itoa::Buffer;
 use std::alloc::{AllocError, Global};
 
@@ -19,6 +21,7 @@ fn input_name(file: Input) -> &'static str
         Input::Verilog => "netlist",
         Input::Spef => "spef",
         Input::Sdc => "sdc",
+        Input::From => "from",
     }
 }
 
@@ -40,6 +43,10 @@ fn why_name(why: TextWhy) -> &'static str
         TextWhy::TwoClocks => "twoclocks",
         TextWhy::TwoValues => "twovalues",
         TextWhy::NoClock => "noclock",
+        TextWhy::Unknown => "unknown",
+        TextWhy::Twice => "twice",
+        TextWhy::WrongCell => "wrongcell",
+        TextWhy::Absent => "absent",
     }
 }
 
@@ -98,6 +105,19 @@ fn written_line(alloc: Global, instances: u32) -> Result<Vec<u8>, AllocError>
     Ok(line)
 }
 
+/// `checked`, the leakage, and how many limits aren't met.
+fn checked_line(alloc: Global, violations: u64, leakage: Micro) -> Result<Vec<u8>, Mem>
+    ensures { IfOk result (λ v. v.items ≡ codes "checked leakage " ++ micro_text leakage ++ codes " violations " ++ decimal violations ++ codes "\n") }
+{
+    let mut digits = Buffer::new();
+    let mut line = Vec::from_slice(alloc, b"checked leakage ")?;
+    print_micro(alloc, leakage, &mut line)?;
+    line.extend_from_slice(b" violations ")?;
+    line.extend_from_slice(digits.format(violations).as_bytes())?;
+    line.extend_from_slice(b"\n")?;
+    Ok(line)
+}
+
 /// What happened, and to which file or why.
 fn file_line(alloc: Global, what: &str, name: &str) -> Result<Vec<u8>, AllocError>
     ensures { IfOk result (λ v. v.items ≡ what.now ++ name.now ++ codes "\n") }
@@ -124,20 +144,25 @@ fn bad_line(alloc: Global, name: &str, why: &str, place: u32) -> Result<Vec<u8>,
 }
 
 /// The status's line with its newline, or nothing for a status that has none.
-pub(crate) fn line_of(alloc: Global, status: &Status) -> Result<Vec<u8>, AllocError>
+pub(crate) fn line_of(alloc: Global, status: &Status) -> Result<Vec<u8>, Mem>
     ensures { IfOk result (λ v. v.items ≡ line_of status.now) }
 {
-    match status {
-        Status::Written { instances } => written_line(alloc, *instances),
-        Status::Usage => Vec::from_slice(alloc, USAGE),
-        Status::ReadFault { file } => file_line(alloc, "cannot read ", input_name(*file)),
-        Status::TooLarge { file } => file_line(alloc, "too large ", input_name(*file)),
+    let line = match status {
+        Status::Written { instances } => written_line(alloc, *instances)?,
+        Status::Checked {
+            violations,
+            leakage,
+        } => checked_line(alloc, *violations, *leakage)?,
+        Status::Usage => Vec::from_slice(alloc, USAGE)?,
+        Status::ReadFault { file } => file_line(alloc, "cannot read ", input_name(*file))?,
+        Status::TooLarge { file } => file_line(alloc, "too large ", input_name(*file))?,
         Status::BadText { file, why, place } => {
-            bad_line(alloc, input_name(*file), why_name(*why), *place)
+            bad_line(alloc, input_name(*file), why_name(*why), *place)?
         }
-        Status::BadLibrary(error) => file_line(alloc, "bad library ", lib_name(error)),
-        Status::BadDesign(error) => file_line(alloc, "bad design ", link_name(error)),
-        Status::WriteFault { file } => Vec::from_slice(alloc, write_line(*file).as_bytes()),
-        Status::OutOfMemory => Ok(Vec::new(alloc)),
-    }
+        Status::BadLibrary(error) => file_line(alloc, "bad library ", lib_name(error))?,
+        Status::BadDesign(error) => file_line(alloc, "bad design ", link_name(error))?,
+        Status::WriteFault { file } => Vec::from_slice(alloc, write_line(*file).as_bytes())?,
+        Status::OutOfMemory => Vec::new(alloc),
+    };
+    Ok(line)
 }

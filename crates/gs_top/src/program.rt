@@ -2,14 +2,15 @@
 ghost use Rattle.std.specs.Prelude.{◌≡◌, ◌≢◌, true, Some};
 ghost use Rattle.gs_shelf.specs.Faults.{NoneFell};
 ghost use Rattle.gs_top.specs.Answer.{seen};
-ghost use Rattle.gs_top.specs.Act.{Acts, ActsOf};
+ghost use Rattle.gs_top.specs.Act.{Acts, Ran, words_status};
 ghost use Rattle.gs_top.specs.Job.{is_good, job_of};
 ghost use Rattle.gs_top.specs.Line.{line_of, unsaid, IsSaid};
-ghost use Rattle.gs_top.specs.Run.{AnswersRefusal, Causes, FirstRefusal, IsAccepted, IsDone, Leaves, NoneRose, Says};
+ghost use Rattle.gs_top.specs.Run.{AnswersRefusal, Causes, FirstRefusal, FirstRefusalOf, IsAccepted, IsDone, JobCauses, JobLeaves, JobSays, Leaves, NoneRose, Says};
 ghost use Rattle.gs_top.specs.declared.job.Job.{Job};
 ghost use Rattle.gs_top.specs.declared.status.Status.{Status};
 
-use crate::job::{Job, SizeJob};
+use crate::check::prepare_check;
+use crate::job::{CheckJob, Job, SizeJob};
 use crate::line::{USAGE, line_of};
 use crate::read::{WordsErr, read_words};
 use crate::size::prepare_size;
@@ -24,7 +25,7 @@ fn unsaid(status: Status) -> Status
     ensures { result ≡ unsaid status }
 {
     match status {
-        Status::Written { .. } => Status::WriteFault {
+        Status::Written { .. } | Status::Checked { .. } => Status::WriteFault {
             file: Output::Console,
         },
         Status::Usage
@@ -77,24 +78,78 @@ fn act_size<H: Shelf>(alloc: Global, shelf: &mut H, job: &SizeJob) -> Status
     }
 }
 
-/// Does the work of a job, and says nothing.
-fn act_job<H: Shelf>(alloc: Global, shelf: &mut H, job: &Job) -> Status
-    requires { is_good job.now ≡ true }
-    ensures { Acts H.tells job.now (seen (H.files shelf.old) (H.said shelf.old) (H.faults shelf.old)) (seen (H.files shelf.new) (H.said shelf.new) (H.faults shelf.new)) result }
+/// Does the work of `check`, and says nothing.
+fn act_check<H: Shelf>(alloc: Global, shelf: &mut H, job: &CheckJob) -> Status
+    requires { is_good (Job.Check job.now) ≡ true }
+    ensures { Acts H.tells (Job.Check job.now) (seen (H.files shelf.old) (H.said shelf.old) (H.faults shelf.old)) (seen (H.files shelf.new) (H.said shelf.new) (H.faults shelf.new)) result }
 {
-    match job {
-        Job::Size(job) => act_size(alloc, shelf, job),
+    match prepare_check(alloc, shelf, job) {
+        Ok(plan) => store_plan(alloc, shelf, job, plan),
+        Err(status) => status,
     }
 }
 
-/// Does what the words ask for, and says nothing.
-fn act<H: Shelf>(alloc: Global, words: &Words, shelf: &mut H) -> Status
-    ensures { ActsOf H.tells (job_of words.now) (seen (H.files shelf.old) (H.said shelf.old) (H.faults shelf.old)) (seen (H.files shelf.new) (H.said shelf.new) (H.faults shelf.new)) result }
+/// Does what `size` is to do, and says the line of its status.
+fn run_size<H: Shelf>(alloc: Global, shelf: &mut H, job: &SizeJob) -> Status
+    requires { is_good (Job.Size job.now) ≡ true }
+    ensures { Ran H.tells (Some (Job.Size job.now)) (seen (H.files shelf.old) (H.said shelf.old) (H.faults shelf.old)) (seen (H.files shelf.new) (H.said shelf.new) (H.faults shelf.new)) result }
+{
+    let status = act_size(alloc, shelf, job);
+    say(alloc, shelf, status)
+}
+
+/// Runs `check`: reads the library, the netlist, the wires and the constraints, links them, and reads the sizes to check, which are the
+/// netlist's where the job names no file of them. It stores the report and says `checked`, the leakage, and how many limits the
+/// sizes don't meet. The first refusal ends the work.
+pub fn run_check<R, H: Shelf>(_rt: &R, alloc: Global, job: &CheckJob, shelf: &mut H) -> Status
+    // No name is empty, and all differ.
+    requires { is_good (Job.Check job.now) ≡ true }
+    // What the files hold after each status, as far as the shelf tells; and which files stay, on every shelf.
+    ensures leaves { JobLeaves H.tells (Job.Check job.now) (H.files shelf.old) (H.files shelf.new) result }
+    // What stands behind each status, on every shelf.
+    ensures cause { JobCauses H.tells (Job.Check job.now) (H.files shelf.old) (H.files shelf.new) (H.faults shelf.old) (H.faults shelf.new) result }
+    // What was said with each status, on a shelf that tells.
+    ensures said { H.tells → JobSays H.tells (Job.Check job.now) (H.files shelf.old) (H.files shelf.new) (H.faults shelf.old) (H.faults shelf.new) (H.said shelf.old) (H.said shelf.new) result }
+    // After want of memory nothing was said, on every shelf.
+    ensures silent { result ≡ Status.OutOfMemory → H.said shelf.new ≡ H.said shelf.old }
+    // Files that make a design and sizes of it, and no fault: `Checked`, or want of memory.
+    ensures complete { H.tells → IsAccepted (Job.Check job.now) (H.files shelf.old) → NoneRose (H.faults shelf.old) (H.faults shelf.new) → IsDone (Job.Check job.now) result }
+    // The first refusal that the bytes decide is the answer, but for a fault of reading or want of memory.
+    ensures exact { H.tells → (refusal : Status) → FirstRefusalOf (Job.Check job.now) (H.files shelf.old) refusal → AnswersRefusal refusal result }
+    // No count of faults falls.
+    ensures later { NoneFell (H.faults shelf.old) (H.faults shelf.new) }
+{
+    let status = act_check(alloc, shelf, job);
+    say(alloc, shelf, status)
+}
+
+/// Does what a job is to do, and says the line of its status.
+fn run_job<R, H: Shelf>(rt: &R, alloc: Global, job: &Job, shelf: &mut H) -> Status
+    requires { is_good job.now ≡ true }
+    ensures { Ran H.tells (Some job.now) (seen (H.files shelf.old) (H.said shelf.old) (H.faults shelf.old)) (seen (H.files shelf.new) (H.said shelf.new) (H.faults shelf.new)) result }
+{
+    match job {
+        Job::Size(job) => run_size(alloc, shelf, job),
+        Job::Check(job) => run_check(rt, alloc, job, shelf),
+    }
+}
+
+fn words_status(error: WordsErr) -> Status
+    ensures { result ≡ words_status error }
+{
+    match error {
+        WordsErr::Usage => Status::Usage,
+        WordsErr::Mem => Status::OutOfMemory,
+    }
+}
+
+/// Does what the words ask for, and says the line of its status.
+fn run_words<R, H: Shelf>(rt: &R, alloc: Global, words: &Words, shelf: &mut H) -> Status
+    ensures { Ran H.tells (job_of words.now) (seen (H.files shelf.old) (H.said shelf.old) (H.faults shelf.old)) (seen (H.files shelf.new) (H.said shelf.new) (H.faults shelf.new)) result }
 {
     match read_words(alloc, words) {
-        Ok(job) => act_job(alloc, shelf, &job),
-        Err(WordsErr::Usage) => Status::Usage,
-        Err(WordsErr::Mem) => Status::OutOfMemory,
+        Ok(job) => run_job(rt, alloc, &job, shelf),
+        Err(error) => say(alloc, shelf, words_status(error)),
     }
 }
 
@@ -102,7 +157,7 @@ fn act<H: Shelf>(alloc: Global, words: &Words, shelf: &mut H) -> Status
 ///
 /// The words come first, then the command's files in their order and what they make; all texts are made before the first store, the
 /// sizes are stored before the report, and the line is said last. The first refusal ends the work. The shelf stays the caller's.
-pub fn run<R, H: Shelf>(_rt: &R, alloc: Global, words: &Words, shelf: &mut H) -> Status
+pub fn run<R, H: Shelf>(rt: &R, alloc: Global, words: &Words, shelf: &mut H) -> Status
     // What the files hold after each status, as far as the shelf tells; and which files stay, on every shelf.
     ensures leaves { Leaves H.tells words.now (H.files shelf.old) (H.files shelf.new) result }
     // What stands behind each status, on every shelf.
@@ -118,6 +173,5 @@ pub fn run<R, H: Shelf>(_rt: &R, alloc: Global, words: &Words, shelf: &mut H) ->
     // No count of faults falls.
     ensures later { NoneFell (H.faults shelf.old) (H.faults shelf.new) }
 {
-    let status = act(alloc, words, shelf);
-    say(alloc, shelf, status)
+    run_words(rt, alloc, words, shelf)
 }

@@ -50,7 +50,7 @@ pub(crate) const CHAIN: &str =
 
 pub(crate) const CHAIN_SIZES: &str = "g1 I2\ng2 I2\n";
 
-pub(crate) const CHAIN_REPORT: &str = "gate-sizing-report 1\nleakage 6.000000 1uW\n";
+pub(crate) const CHAIN_REPORT: &str = "gate-sizing-report 1\nleakage 6.000000 1uW\nviolations 0\n";
 
 /// A text of no wires.
 pub(crate) const NO_WIRES: &str = "*C_UNIT 1 FF\n";
@@ -133,6 +133,19 @@ pub(crate) fn size_words(alloc: Global) -> Result<Words, Mem> {
         ["n.lib", "n.v", "n.spef", "n.sdc"],
         ["n.sizes", "n.rpt"],
     )
+}
+
+/// The words of `check`, with the file of sizes where `with_from` says so.
+pub(crate) fn check_words(alloc: Global, with_from: bool) -> Result<Words, Mem> {
+    let mut words = words_of(alloc, &["check", "--lib", "n.lib", "--verilog", "n.v"])?;
+    for text in ["--spef", "n.spef", "--sdc", "n.sdc", "--report", "n.rpt"] {
+        words.add(text)?;
+    }
+    if with_from {
+        words.add("--from")?;
+        words.add("n.from")?;
+    }
+    Ok(words)
 }
 
 /// These four files, and two from before.

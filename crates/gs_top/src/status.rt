@@ -4,6 +4,7 @@ ghost use Rattle.gs_top.specs.Exit.{exit_of};
 
 use gs_lib::LibErr;
 use gs_link::LinkErr;
+use gs_quantity::Micro;
 
 /// A file that a command reads.
 #[derive(Clone, Copy, Debug, PartialEq, Eq)]
@@ -16,6 +17,8 @@ pub enum Input {
     Spef,
     /// The constraints, in SDC.
     Sdc,
+    /// The sizes to start from.
+    From,
 }
 
 /// What a command writes.
@@ -60,6 +63,14 @@ pub enum TextWhy {
     TwoValues,
     /// No clock.
     NoClock,
+    /// A line of sizes that names no instance.
+    Unknown,
+    /// A line of sizes that names an instance again.
+    Twice,
+    /// A line of sizes whose cell isn't one of the instance's alternatives.
+    WrongCell,
+    /// An instance that no line of the sizes names.
+    Absent,
 }
 
 /// How a command ended.
@@ -68,6 +79,12 @@ pub enum Status {
     /// The sizes of so many instances were written, and the report.
     Written {
         instances: u32,
+    },
+    /// The sizes were timed and judged, and the report was written: how many limits aren't met, and the leakage in millionths of the
+    /// library's unit.
+    Checked {
+        violations: u64,
+        leakage: Micro,
     },
     /// The words make no job: they are not of the form, a file's name is empty, or two names are the same.
     Usage,
@@ -79,8 +96,8 @@ pub enum Status {
     TooLarge {
         file: Input,
     },
-    /// The file's text is refused. `place` counts bytes from 0 for `OpenString` and `OpenComment`, lines from 1 for SPEF and SDC (of
-    /// `NoClock` it is the number of lines), and pieces from 0 for the others; it is the number of pieces where the text ends too early.
+    /// The file's text is refused. `place` counts bytes from 0 for `OpenString` and `OpenComment`, lines from 1 for SPEF, SDC and
+    /// sizes (of `NoClock` and `Absent` it is the number of lines), and pieces from 0 for the others; it is the number of pieces where the text ends too early.
     BadText {
         file: Input,
         why: TextWhy,
@@ -103,7 +120,8 @@ pub fn exit_of(status: &Status) -> u8
     ensures { result ≡ exit_of status.now }
 {
     match status {
-        Status::Written { .. } => 0,
+        Status::Written { .. } | Status::Checked { violations: 0, .. } => 0,
+        Status::Checked { .. } => 1,
         Status::Usage => 2,
         Status::BadText { .. }
         | Status::TooLarge { .. }

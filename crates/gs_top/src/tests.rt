@@ -154,25 +154,25 @@ fn successes() -> [Row; 5] {
             of_netlist(EMPTY),
             "written 0\n",
             "",
-            "gate-sizing-report 1\nleakage 0.000000 1uW\n",
+            "gate-sizing-report 1\nleakage 0.000000 1uW\nviolations 0\n",
         ),
         done(
             of_library(LITTLE),
             "written 2\n",
             CHAIN_SIZES,
-            "gate-sizing-report 1\nleakage 0.000002\n",
+            "gate-sizing-report 1\nleakage 0.000002\nviolations 0\n",
         ),
         done(
             path(),
             "written 5\n",
             "g1 N2\ng2 I2\nf1 F1\ng3 I2\ng4 I2\n",
-            "gate-sizing-report 1\nleakage 18.000000 1uW\n",
+            "gate-sizing-report 1\nleakage 18.000000 1uW\nviolations 0\n",
         ),
         done(
             of_netlist(CUT_LATCH),
             "written 2\n",
             "g1 N1\ng2 F1\n",
-            "gate-sizing-report 1\nleakage 6.000000 1uW\n",
+            "gate-sizing-report 1\nleakage 6.000000 1uW\nviolations 2\nsetup q1 held 17.000000 bound 1.000000\nsetup g2/d held 17.000000 bound 1.000000\n",
         ),
     ]
 }

@@ -1,7 +1,6 @@
-use Rattle.std.proofs.Common.{◌≡◌, ◌≢◌, drop, take, ◌∷◌, sym, ◌∙◌, ap}
-use Rattle.std.specs.List.{prefix_len}
+use Rattle.std.proofs.Common.{◌≢◌, drop, take, ◌∷◌, sym, ◌∙◌, ap}
 use Rattle.std.proofs.lemmas.List.{take_rest}
-use Rattle.gs_sizes.specs.Lines.{is_blank, runs}
+use Rattle.gs_sizes.specs.Lines.{runs}
 use Rattle.gs_sizes.proofs.Texts.{no_word, one_word, to_blank}
 use Rattle.gs_sizes.proofs.line.first_word.Goals as goal
 

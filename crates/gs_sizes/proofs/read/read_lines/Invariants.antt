@@ -1,4 +1,5 @@
 use Rattle.std.proofs.Common.{◌≡◌, ◌≤◌, ◌+◌, ◌-◌, drop, length}
+use Rattle.gs_design.specs.Parts.{parts_of}
 use Rattle.gs_sizes.specs.Lines.{lines, rows, rows_from}
 use Rattle.gs_sizes.proofs.Loop.{Reads}
 use Rattle.gs_sizes.proofs.read.read_lines.Given as goal
@@ -9,7 +10,7 @@ invariant-loop-at l = record {
   within : l.at ≤ length l.bytes + 1;
   many : length l.places.items ≡ length l.design.insts;
   count : l.number + length (lines (drop l.at l.bytes)) ≡ length (lines l.bytes);
-  reads : Reads l.design (rows_from (l.number + 1) (lines (drop l.at l.bytes))) (rows l.bytes) l.places.items;
+  reads : Reads (parts_of l.design) (rows_from (l.number + 1) (lines (drop l.at l.bytes))) (rows l.bytes) l.places.items;
 }
 
 abbrev pub decreases-loop-at : goal.decreases-loop-at

@@ -8,6 +8,7 @@ returns c = each_job (record {
   netlists = c.each_text_is_decided-2.ensures;
   wires = c.each_text_is_decided-3.ensures;
   constraints = c.each_text_is_decided-4.ensures;
+  froms = c.each_text_is_decided-5.ensures;
   kept = c.each_netlist_is_kept.ensures;
   links = c.each_design_is_decided.ensures;
 })

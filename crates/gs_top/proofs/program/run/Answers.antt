@@ -1,16 +1,16 @@
 use Rattle.gs_top.specs.Job.{job_of}
-use Rattle.gs_top.proofs.Running.{ran, complete, exact}
+use Rattle.gs_top.proofs.Running.{complete, exact}
 use Rattle.gs_top.proofs.program.run.Goals as goal
 
 pub returns : goal.returns
 returns g c =
-    let h = ran g.H.Shelf.tells (job_of c.args.words.now) _ _ _ c.act-status.result c.say.result c.act-status.ensures c.say.ensures in
+    let h = c.run_words.ensures in
     record {
       leaves = h.leaves;
       cause = h.causes;
       said = h.says;
       silent = h.silent;
-      complete = complete g.H.Shelf.tells (job_of c.args.words.now) _ _ c.say.result h;
-      exact = exact g.H.Shelf.tells (job_of c.args.words.now) _ _ c.say.result h;
+      complete = complete g.H.Shelf.tells (job_of c.args.words.now) _ _ c.run_words.result h;
+      exact = exact g.H.Shelf.tells (job_of c.args.words.now) _ _ c.run_words.result h;
       later = h.later;
     }

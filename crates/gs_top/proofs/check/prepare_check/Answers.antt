@@ -1,0 +1,41 @@
+use Rattle.std.proofs.Common.{refl}
+use Rattle.gs_design.specs.Parts.{parts_of}
+use Rattle.gs_top.specs.Command.{check}
+use Rattle.gs_top.specs.Design.{design}
+use Rattle.gs_top.specs.Stage.{and_then, give}
+use Rattle.gs_top.specs.Start.{sized, start_in}
+use Rattle.gs_top.proofs.Planning.{plans, no_plan, no_room, check_allows}
+use Rattle.gs_top.proofs.Stages.{given, goes_on, stops}
+use Rattle.gs_top.proofs.check.prepare_check.Goals as goal
+
+pub returns-in-Err : goal.returns-in-Err
+returns-in-Err g c =
+    let from = c.args.job.now.from in
+    no_plan (check from) (stops {a = design} {next = λ p. and_then (start_in from p) (λ s. give (sized p s))} c.in-Err.ensures)
+
+pub returns-in-Err-load_start : goal.returns-in-Err-load_start
+returns-in-Err-load_start g c =
+    let from = c.args.job.now.from in
+    let p = parts_of c.in-Ok.design in
+    no_plan (check from) (goes_on {a = design} {next = λ p. and_then (start_in from p) (λ s. give (sized p s))} {v = p} c.in-Ok.ensures
+    (stops {a = start_in from p} {next = λ s. give (sized p s)} c.in-Err-load_start.ensures.work))
+
+pub returns-in-Ok-plan_check : goal.returns-in-Ok-plan_check
+returns-in-Ok-plan_check g c =
+    let from = c.args.job.now.from in
+    let p = parts_of c.in-Ok.design in
+    let s = c.in-Ok-load_start.sizes in
+    let of = c.in-Ok-plan_check.ensures in
+    plans (check from) c.in-Ok-plan_check.plan (check_allows from c.in-Ok.design s of.0 c.in-Ok-plan_check.plan of.2)
+    (goes_on {a = design} {next = λ p. and_then (start_in from p) (λ s. give (sized p s))} {v = p} c.in-Ok.ensures
+    (goes_on {a = start_in from p} {next = λ s. give (sized p s)} {v = s} c.in-Ok-load_start.ensures.work (given (sized p s))))
+    (c.in-Ok.design, refl, of.0, of.1, of.2)
+
+pub returns : goal.returns
+returns g c =
+    let from = c.args.job.now.from in
+    let p = parts_of c.in-Ok.design in
+    let s = c.in-Ok-load_start.sizes in
+    no_room (check from)
+    (goes_on {a = design} {next = λ p. and_then (start_in from p) (λ s. give (sized p s))} {v = p} c.in-Ok.ensures
+    (goes_on {a = start_in from p} {next = λ s. give (sized p s)} {v = s} c.in-Ok-load_start.ensures.work (given (sized p s))))
