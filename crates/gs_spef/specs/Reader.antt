@@ -16,6 +16,8 @@ use Rattle.gs_spef.specs.declared.error.Fault.TheVariants as faults
 use Rattle.gs_spef.specs.declared.error.Stop.{Stop}
 use Rattle.gs_spef.specs.declared.error.Stop.TheVariants as stops
 use Rattle.gs_spef.specs.declared.error.SpefErr.{SpefErr}
+use Rattle.gs_spef.specs.declared.format.Says.{Says}
+use Rattle.gs_spef.specs.declared.format.Says.TheVariants.{Wrong, Distributes}
 use Rattle.gs_spef.specs.declared.reader.Reader.{Reader}
 use Rattle.gs_spef.specs.declared.wires.Wire.{Wire}
 
@@ -40,6 +42,21 @@ pub record Holds (r : Reader) (past : List Row) : Type 0 where
 abbrev pub Stops : Stop → Option Fault → Type 0
 Stops (stops.At f) o = o ≡ Some f
 Stops stops.Mem o = Unit {0}
+
+-- the fault of a line that is told without taking memory: it leaves a block open at the text's end, or is bad or a resistance by its
+-- words alone
+abbrev pub fault_of_words : Says → Option Fault
+fault_of_words Wrong = Some faults.BadLine
+fault_of_words Distributes = Some faults.Distributed
+fault_of_words _ = None
+
+abbrev pub plain_fault : (stays_open : Bool) → Says → Option Fault
+plain_fault stays_open s = if stays_open then Some faults.BadLine else fault_of_words s
+
+-- where there is such a fault, it is the reason, whatever memory there is
+abbrev pub Tells : Stop → Option Fault → Type 0
+Tells e None = Unit {0}
+Tells e (Some f) = e ≡ stops.At f
 
 -- the refusal of a fault at a line
 abbrev pub refusal_of : ℕ → Fault → SpefErr

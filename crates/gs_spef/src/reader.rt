@@ -1,15 +1,15 @@
 //! The reader's state, and its steps.
 #![tactic(auto)]
 
-ghost use Rattle.std.specs.Prelude.{◌≡◌, ◌<◌, ◌∷◌, ℕ, List, [], None, Some, length, map, IfOk, IfErr, OnOk};
+ghost use Rattle.std.specs.Prelude.{◌≡◌, ◌<◌, ◌≤◌, ◌∷◌, ◌==◌, ◌&&◌, ℕ, List, [], None, Some, length, map, true, IfOk, IfErr, OnOk};
 ghost use Rattle.std.specs.List.{All, list_any};
 ghost use Rattle.std.specs.Map.{update};
 ghost use Rattle.std.specs.Str.{bytes_eq};
 ghost use Rattle.gs_names.specs.Names.{find};
 ghost use Rattle.gs_amount.specs.Amount.{IsAmount, amount_of};
-ghost use Rattle.gs_spef.specs.Format.{tens};
-ghost use Rattle.gs_spef.specs.Names.{unescaped};
-ghost use Rattle.gs_spef.specs.Reader.{Adds, Begins, Holds, IsReader, Stops, StopsAtNet, of_net};
+ghost use Rattle.gs_spef.specs.Format.{is_open, next, says, tens};
+ghost use Rattle.gs_spef.specs.Names.{is_index, unescaped};
+ghost use Rattle.gs_spef.specs.Reader.{Adds, Begins, Holds, IsReader, Stops, StopsAtNet, Tells, of_net, plain_fault};
 ghost use Rattle.gs_spef.specs.Spef.{Row, begin_fault, fault, net_fault, net_named, unit_of};
 ghost use Rattle.gs_text.specs.Pieces.{LiesIn, text_of};
 
@@ -61,6 +61,8 @@ impl Reader {
         requires { IsReader self.now }
         ensures ok { IfOk result (λ n. find self.now.names index.now ≡ Some n) }
         ensures err { IfErr result (λ e. (past : List Row) → Stops e (net_fault past (find self.now.names index.now))) }
+        // An index of at most 16 bytes that no line maps is told, whatever memory there is.
+        ensures told { IfErr result (λ e. length index.now ≤ 16 → find self.now.names index.now ≡ None → e ≡ Stop.At Fault.UnknownIndex) }
     {
         let key = Name::copy_of(alloc, index)?;
         match self.names.get(key) {
@@ -77,6 +79,8 @@ impl Reader {
         requires { IsReader self.now }
         ensures ok { IfOk result (λ n. (past : List Row) → Holds self.now past → net_named past reference.now ≡ Some n) }
         ensures err { IfErr result (λ e. (past : List Row) → Holds self.now past → Stops e (net_fault past (net_named past reference.now))) }
+        // An index of at most 16 bytes that no line maps is told, whatever memory there is.
+        ensures told { IfErr result (λ e. length reference.now ≤ 16 → is_index reference.now ≡ true → find self.now.names reference.now ≡ None → e ≡ Stop.At Fault.UnknownIndex) }
     {
         if is_index(reference) {
             return self.indexed(alloc, reference);
@@ -107,6 +111,8 @@ impl Reader {
         ensures kept { OnOk result (IsReader self.new) }
         ensures ok { OnOk result ((past : List Row) → Holds self.old past → Begins self.old self.new past reference.now total.now) }
         ensures err { IfErr result (λ e. (past : List Row) → Holds self.old past → Stops e (begin_fault past (amount_of total.now (tens (unit_of past))) reference.now)) }
+        // A bad total is told, whatever memory there is.
+        ensures told { IfErr result (λ e. amount_of total.now (tens self.old.unit) ≡ None → e ≡ Stop.At Fault.BadLine) }
     {
         let Some(amount) = read_amount(total, self.unit.tens()) else {
             return Err(Stop::At(Fault::BadLine));
@@ -147,6 +153,8 @@ impl Reader {
         ensures ok { OnOk result ((past : List Row) → Holds self.old past → Holds self.new (record { number = number; words = map (text_of bytes.now) line.now } ∷ past)) }
         ensures good { OnOk result ((past : List Row) → Holds self.old past → fault last past (record { number = number; words = map (text_of bytes.now) line.now }) ≡ None) }
         ensures err { IfErr result (λ e. (past : List Row) → Holds self.old past → Stops e (fault last past (record { number = number; words = map (text_of bytes.now) line.now }))) }
+        // A fault that takes no memory to find is told, whatever memory there is.
+        ensures told { IfErr result (λ e. Tells e (plain_fault (number == last && is_open (next self.old.place (says self.old.place (map (text_of bytes.now) line.now)))) (says self.old.place (map (text_of bytes.now) line.now)))) }
     {
         let said = line_says(self.place, bytes, line);
         let after = next(self.place, said);
