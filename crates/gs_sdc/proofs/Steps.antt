@@ -5,7 +5,7 @@ use Rattle.std.specs.Prelude.{OnOk}
 use Rattle.std.specs.List.{AllByRecursion}
 use Rattle.std.specs.Option.{is_some, option_map}
 use Rattle.gs_amount.specs.Amount.{IsAmount, IsLimited}
-use Rattle.gs_sdc.specs.Command.{Reading, passes, clocks, gives, drives}
+use Rattle.gs_sdc.specs.Command.{Reading, passes, not_built, clocks, gives, drives}
 use Rattle.gs_sdc.specs.Reader.{ClockKept, Holds, IsDriven, IsReader, IsValues, Stops, StopsAgain}
 use Rattle.gs_sdc.specs.Reads.{IsOf, reading_is}
 use Rattle.gs_sdc.specs.declared.reading.Reading.{Reading as Read}
@@ -271,3 +271,22 @@ says_some r old new bytes o x e s = subst (λ (p : Option Read). IsStep r old ne
 
 pub says_read : {T : Type 0} (r : Result T Stop) (old new : Reader) (x y : Option Reading) → x ≡ y → IsStep r old new x → IsStep r old new y
 says_read r old new x y e s = subst (λ (z : Option Reading). IsStep r old new z) e s
+
+-- ---- what is told whatever memory there is
+
+-- a step by y says nothing of what a step by z has to tell
+pub other_told : {T X : Type 0} (f : Fault) (r : Result T Stop) (x y z : X) → x ≡ y → (y ≡ z → ⊥) → IfErr r (λ e. x ≡ z → e ≡ stops.At f)
+other_told f (Ok v) x y z same apart = tt
+other_told f (Err e) x y z same apart = λ h. absurd (apart (sym same ∙ h))
+
+pub some_apart : {X : Type 0} (x : X) → Some x ≡ None → ⊥
+some_apart x h = let never : Some x ≡ None = h in cc
+
+pub clocks_apart : (period : ℤ) (names : List (List ℕ)) → clocks period names ≡ not_built → ⊥
+clocks_apart period names h = let never : clocks period names ≡ not_built = h in cc
+
+pub gives_apart : (q : Quantity) (amount : ℤ) (names : List (List ℕ)) → gives q amount names ≡ not_built → ⊥
+gives_apart q amount names h = let never : gives q amount names ≡ not_built = h in cc
+
+pub drives_apart : (cell : List ℕ) (pin : Option (List ℕ)) (rise fall : ℤ) (names : List (List ℕ)) → drives cell pin rise fall names ≡ not_built → ⊥
+drives_apart cell pin rise fall names h = let never : drives cell pin rise fall names ≡ not_built = h in cc

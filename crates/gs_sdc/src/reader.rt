@@ -1,9 +1,9 @@
 //! The reader's state, and its steps.
 #![tactic(auto)]
 
-ghost use Rattle.std.specs.Prelude.{◌≡◌, ◌<◌, ◌∷◌, ℕ, List, [], None, Some, length, map, IfOk, IfErr, IfSome, OnOk};
+ghost use Rattle.std.specs.Prelude.{◌≡◌, ◌<◌, ◌∷◌, ℕ, List, [], None, Some, length, map, true, IfOk, IfErr, IfSome, OnOk};
 ghost use Rattle.std.specs.List.{All};
-ghost use Rattle.std.specs.Option.{option_map};
+ghost use Rattle.std.specs.Option.{is_some, option_map};
 ghost use Rattle.gs_amount.specs.Amount.{IsLimited};
 ghost use Rattle.gs_sdc.specs.Front.{reading_of};
 ghost use Rattle.gs_sdc.specs.Token.{token_of};
@@ -68,6 +68,8 @@ impl Reader {
         ensures ok { OnOk result ((past : List Item) → Holds self.old past → (number : ℕ) → Holds self.new (record { number = number; reading = Some (command.clocks period (names_of bytes.now names.now)) } ∷ past)) }
         ensures good { OnOk result ((past : List Item) → Holds self.old past → fault_by past (Some (command.clocks period (names_of bytes.now names.now))) ≡ None) }
         ensures err { IfErr result (λ e. (past : List Item) → Holds self.old past → Stops e (fault_by past (Some (command.clocks period (names_of bytes.now names.now))))) }
+        // A second clock is told, whatever memory there is.
+        ensures told { IfErr result (λ e. is_some self.old.clock ≡ true → e ≡ Stop.At Fault.TwoClocks) }
     {
         if self.clock.is_some() {
             return Err(Stop::At(Fault::TwoClocks));
@@ -115,6 +117,8 @@ impl Reader {
         ensures ok { OnOk result ((past : List Item) → Holds self.old past → (number : ℕ) → Holds self.new (record { number = number; reading = Some (reading_is bytes.now reading.now) } ∷ past)) }
         ensures good { OnOk result ((past : List Item) → Holds self.old past → fault_by past (Some (reading_is bytes.now reading.now)) ≡ None) }
         ensures err { IfErr result (λ e. (past : List Item) → Holds self.old past → Stops e (fault_by past (Some (reading_is bytes.now reading.now)))) }
+        // What isn't built is told, whatever memory there is.
+        ensures told { IfErr result (λ e. reading_is bytes.now reading.now ≡ command.not_built → e ≡ Stop.At Fault.NotBuilt) }
     {
         match reading {
             Reading::Passes => Ok(()),
@@ -141,6 +145,8 @@ impl Reader {
         ensures ok { OnOk result ((past : List Item) → Holds self.old past → (number : ℕ) → Holds self.new (record { number = number; reading = option_map (reading_is bytes.now) reading.now } ∷ past)) }
         ensures good { OnOk result ((past : List Item) → Holds self.old past → fault_by past (option_map (reading_is bytes.now) reading.now) ≡ None) }
         ensures err { IfErr result (λ e. (past : List Item) → Holds self.old past → Stops e (fault_by past (option_map (reading_is bytes.now) reading.now))) }
+        // A command of no form is told, whatever memory there is.
+        ensures told { IfErr result (λ e. reading.now ≡ None → e ≡ Stop.At Fault.BadLine) }
     {
         match reading {
             None => Err(Stop::At(Fault::BadLine)),
