@@ -10,7 +10,7 @@ use Rattle.std.proofs.Math.Seq.{drop-append_seam, take-length}
 use Rattle.gs_design.specs.Alternatives.{alternatives}
 use Rattle.gs_design.specs.Class.{AreAlternativesOf}
 use Rattle.gs_design.specs.declared.cell.Cell.{Cell}
-use Rattle.gs_alternatives.specs.Choices.{AreChoices, IsStretchOf, no_stretch, stretch_at}
+use Rattle.gs_alternatives.specs.Choices.{AreChoices, AreShared, IsStretchOf, no_stretch, stretch_at}
 use Rattle.gs_alternatives.specs.Classes.{AreClasses, IsPut, has}
 use Rattle.gs_alternatives.specs.declared.choices.Stretch.{Stretch}
 
@@ -82,17 +82,29 @@ module _ (group : List ℕ) (base p : ℕ) (old new : List Stretch) (so_far : Is
 
 -- ---- the lists of classes
 
+-- the choice at place i is in the stretch of a cell whose class is put
+pub record IsTakenTo (cells : List Cell) (classes : List ℕ) (stretches : List Stretch) (n i : ℕ) : Type 0 where
+  pub cell : ℕ
+  pub inside : cell < length cells
+  pub done : slice_index classes cell < n
+  pub from : (stretch_at stretches cell).from ≤ i
+  pub to : i < (stretch_at stretches cell).to
+
 -- the classes of the first n cells are put
 pub record IsLaid (cells : List Cell) (classes choices : List ℕ) (stretches : List Stretch) (n : ℕ) : Type 0 where
   pub many : length stretches ≡ length cells
   pub few : length choices ≤ 1024 * n
   pub rows : (c : ℕ) → c < length cells → slice_index classes c < n → IsStretchOf cells choices c (stretch_at stretches c)
+  pub shared : (c x : ℕ) → c < length cells → x < length cells → slice_index classes c < n → slice_index classes x ≡ slice_index classes c → (stretch_at stretches x).from ≡ (stretch_at stretches c).from
+  pub taken : (i : ℕ) → i < length choices → IsTakenTo cells classes stretches n i
 
 pub laid_none : (cells : List Cell) (classes : List ℕ) (stretches : List Stretch) → length stretches ≡ length cells → IsLaid cells classes [] stretches 0
 laid_none cells classes stretches many = record {
   many = many;
   few = omega arith;
   rows = λ c lt k. absurd (omega arith);
+  shared = λ c x lt in_x k e. absurd (omega arith);
+  taken = λ i k. absurd (omega arith);
 }
 
 -- what was put stays where more is put
@@ -130,8 +142,22 @@ module _ (cells : List Cell) (classes choices : List ℕ) (stretches : List Stre
         absurd (apart (ap (slice_index classes) (sym same) ∙ are.leads c in_c ∙ same))
   ]
 
+  skip_shared : slice_index classes n ≢ n → (c x : ℕ) → c < length cells → x < length cells → slice_index classes c < n + 1 → slice_index classes x ≡ slice_index classes c
+      → (stretch_at stretches x).from ≡ (stretch_at stretches c).from
+  skip_shared apart c x in_c in_x le e = elim (cases_lt (slice_index classes c) n) [
+    | inl low ↦ laid.shared c x in_c in_x low e
+    | inr high ↦
+        let same : slice_index classes c ≡ n = omega arith in
+        absurd (apart (ap (slice_index classes) (sym same) ∙ are.leads c in_c ∙ same))
+  ]
+
+  skip_taken : (i : ℕ) → i < length choices → IsTakenTo cells classes stretches (n + 1) i
+  skip_taken i k =
+      let t : IsTakenTo cells classes stretches n i = laid.taken i k in
+      record { cell = t.cell; inside = t.inside; done = omega (arith, t.done); from = t.from; to = t.to }
+
   pub laid_skip : slice_index classes n ≢ n → IsLaid cells classes choices stretches (n + 1)
-  laid_skip apart = record { many = laid.many; few = omega (arith, laid.few); rows = skip_rows apart }
+  laid_skip apart = record { many = laid.many; few = omega (arith, laid.few); rows = skip_rows apart; shared = skip_shared apart; taken = skip_taken }
 
   module _ (group : List ℕ) (new : List Stretch) (lead : slice_index classes n ≡ n) (is : group ≡ alternatives cells n) (many : length new ≡ length stretches)
       (members : (c : ℕ) → has group c ≡ true → IsPut group (length choices) c (stretch_at new c))
@@ -175,8 +201,61 @@ module _ (cells : List Cell) (classes choices : List ℕ) (stretches : List Stre
       | inr high ↦ new_row c in_c (omega arith)
     ]
 
+    stays_by : (c : ℕ) → c < length cells → slice_index classes c < n → (b : Bool) → has group c ≡ b → stretch_at new c ≡ stretch_at stretches c
+    stays_by c in_c low true e =
+        let one : slice_index classes c ≡ slice_index classes n = are.members n c lt in_c (ap (λ g. has g c) (sym is) ∙ e) in
+        absurd (omega (arith, one, lead, low))
+    stays_by c in_c low false e = others c e
+
+    stays : (c : ℕ) → c < length cells → slice_index classes c < n → stretch_at new c ≡ stretch_at stretches c
+    stays c in_c low = stays_by c in_c low (has group c) refl
+
+    put_at : (c : ℕ) → c < length cells → slice_index classes c ≡ n → IsPut group (length choices) c (stretch_at new c)
+    put_at c in_c same =
+        let own : group ≡ alternatives cells c = is ∙ ap (alternatives cells) (sym same) ∙ are.same c in_c in
+        members c (ap (λ g. has g c) own ∙ (kept c in_c).itself)
+
+    put_shared : (c x : ℕ) → c < length cells → x < length cells → slice_index classes c < n + 1 → slice_index classes x ≡ slice_index classes c
+        → (stretch_at new x).from ≡ (stretch_at new c).from
+    put_shared c x in_c in_x le e = elim (cases_lt (slice_index classes c) n) [
+      | inl low ↦
+          ap (λ (s : Stretch). s.from) (stays x in_x (omega (arith, e, low))) ∙ laid.shared c x in_c in_x low e ∙ sym (ap (λ (s : Stretch). s.from) (stays c in_c low))
+      | inr high ↦
+          let same : slice_index classes c ≡ n = omega arith in
+          (put_at x in_x (e ∙ same)).from ∙ sym (put_at c in_c same).from
+    ]
+
+    put_taken : (i : ℕ) → i < length after → IsTakenTo cells classes new (n + 1) i
+    put_taken i k = elim (cases_lt i (length choices)) [
+      | inl low ↦
+          let t : IsTakenTo cells classes stretches n i = laid.taken i low in
+          let same : stretch_at new t.cell ≡ stretch_at stretches t.cell = stays t.cell t.inside t.done in
+          record {
+            cell = t.cell;
+            inside = t.inside;
+            done = omega (arith, t.done);
+            from = subst (λ (s : Stretch). s.from ≤ i) (sym same) t.from;
+            to = subst (λ (s : Stretch). i < s.to) (sym same) t.to;
+          }
+      | inr high ↦
+          let put : IsPut group (length choices) n (stretch_at new n) = put_at n lt lead in
+          record {
+            cell = n;
+            inside = lt;
+            done = omega (arith, lead);
+            from = omega (arith, put.from, high);
+            to = omega (arith, put.to, after_many, k);
+          }
+    ]
+
     pub laid_put : IsLaid cells classes (choices ++ group) new (n + 1)
-    laid_put = record { many = many ∙ laid.many; few = omega (arith, laid.few, after_many, (kept n lt).few, ap length is); rows = put_rows }
+    laid_put = record {
+      many = many ∙ laid.many;
+      few = omega (arith, laid.few, after_many, (kept n lt).few, ap length is);
+      rows = put_rows;
+      shared = put_shared;
+      taken = put_taken;
+    }
 
 pub laid_all : (cells : List Cell) (classes choices : List ℕ) (stretches : List Stretch) (n : ℕ) → AreClasses cells classes → IsLaid cells classes choices stretches n → n ≡ length cells → length cells ≤ 65535
     → AreChoices cells choices stretches
@@ -184,4 +263,14 @@ laid_all cells classes choices stretches n are laid whole few = record {
   many = laid.many;
   few = omega (arith, laid.few);
   each = λ c lt. laid.rows c lt (omega (arith, are.below c lt));
+}
+
+pub laid_shared : (cells : List Cell) (classes choices : List ℕ) (stretches : List Stretch) (n : ℕ) → ((c : ℕ) → c < length cells → AreAlternativesOf cells c (alternatives cells c)) → AreClasses cells classes
+    → IsLaid cells classes choices stretches n → n ≡ length cells → AreShared cells choices stretches
+laid_shared cells classes choices stretches n kept are laid whole = record {
+  shared = λ c x in_c in_x e.
+      laid.shared c x in_c in_x (omega (arith, are.below c in_c, whole)) (are.members c x in_c in_x (ap (λ g. has g x) (sym e) ∙ (kept x in_x).itself));
+  taken = λ i k.
+      let t : IsTakenTo cells classes stretches n i = laid.taken i k in
+      record { cell = t.cell; inside = t.inside; from = t.from; to = t.to };
 }

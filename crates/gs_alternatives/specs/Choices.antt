@@ -25,3 +25,15 @@ pub record AreChoices (cells : List Cell) (choices : List ℕ) (stretches : List
   pub many : length stretches ≡ length cells
   pub few : length choices < 134217728
   pub each : (c : ℕ) → c < length cells → IsStretchOf cells choices c (stretch_at stretches c)
+
+-- the choice at place i is in the stretch of a cell
+pub record IsTaken (cells : List Cell) (stretches : List Stretch) (i : ℕ) : Type 0 where
+  pub cell : ℕ
+  pub inside : cell < length cells
+  pub from : (stretch_at stretches cell).from ≤ i
+  pub to : i < (stretch_at stretches cell).to
+
+-- cells with the same alternatives have one stretch, and no choice stands for nothing
+pub record AreShared (cells : List Cell) (choices : List ℕ) (stretches : List Stretch) : Type 0 where
+  pub shared : (c x : ℕ) → c < length cells → x < length cells → alternatives cells x ≡ alternatives cells c → (stretch_at stretches x).from ≡ (stretch_at stretches c).from
+  pub taken : (i : ℕ) → i < length choices → IsTaken cells stretches i

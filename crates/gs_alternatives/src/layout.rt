@@ -5,7 +5,7 @@ ghost use Rattle.std.specs.Prelude.{ℕ, ◌≡◌, ◌<◌, ◌≤◌, ◌+◌,
 ghost use Rattle.gs_design.specs.Alternatives.{alternatives, is_sizable};
 ghost use Rattle.gs_design.specs.Class.{AreAlternativesOf};
 ghost use Rattle.gs_design.specs.Cells.{cell_at};
-ghost use Rattle.gs_alternatives.specs.Choices.{AreChoices, no_stretch, stretch_at};
+ghost use Rattle.gs_alternatives.specs.Choices.{AreChoices, AreShared, no_stretch, stretch_at};
 ghost use Rattle.gs_alternatives.specs.Classes.{AreClasses, IsPut, has};
 
 use crate::choices::{Alternatives, Stretch};
@@ -99,7 +99,8 @@ pub fn lay_out(
     requires classes { AreClasses cells.now classes.now }
     requires as_many { length groups.now ≡ length cells.now }
     requires groups { (c : ℕ) → c < length cells.now → is_sizable (cell_at cells.now c) ≡ true → slice_index classes.now c ≡ c → slice_index_or groups.now c [] ≡ alternatives cells.now c }
-    ensures { IfOk result (λ a. AreChoices cells.now a.choices a.stretches) }
+    ensures choices { IfOk result (λ a. AreChoices cells.now a.choices a.stretches) }
+    ensures shared { IfOk result (λ a. AreShared cells.now a.choices a.stretches) }
 {
     let mut choices = Vec::with_capacity(alloc, cells.len())?;
     let mut stretches = vec![in alloc; NONE; cells.len()]?;
