@@ -45,3 +45,8 @@ none_at f (x ∷ xs) (suc i) d e lt = none_at f xs i d (or_later (f x) (first_so
     or_later : {F : Type 0} (a b : Option F) → or_else a b ≡ None → b ≡ None
     or_later None b e = e
     or_later (Some f) b e = absurd cc
+
+-- five checks pass, and a sixth decides
+pub all_pass : {F : Type 0} {a b c d e later : Option F} → a ≡ None → b ≡ None → c ≡ None → d ≡ None → e ≡ None
+    → or_else (or_else a (or_else b (or_else c (or_else d e)))) later ≡ later
+all_pass h i j k l = rw (h, i, j, k, l) refl

@@ -4,3 +4,4 @@ pub mod FoundLaws
 pub mod Inside
 pub mod ArcLaws
 pub mod TallyLaws
+pub mod Fronts

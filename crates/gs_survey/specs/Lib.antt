@@ -9,3 +9,4 @@ pub mod Found
 pub mod Blank
 pub mod Arcs
 pub mod Survey
+pub mod Lookup

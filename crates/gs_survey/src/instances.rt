@@ -19,25 +19,26 @@ use gs_verilog::{Link, RawInst};
 use std::alloc::{AllocError, Global};
 
 // The number of the cell that is named, or the number of cells where there is none of the name.
-fn find_cell<'a, T: OfCell>(cells: &Places<'a, Cell>, item: &'a T) -> u32
+fn find_cell<T: OfCell>(alloc: Global, cells: &Places<Cell>, item: &T) -> Result<u32, AllocError>
     requires { length cells.now ≤ 65535 }
-    ensures { result ≡ cell_number cells.now (T.cell item.now) }
+    ensures { IfOk result (λ n. n ≡ cell_number cells.now (T.cell item.now)) }
 {
-    cells.place(item.cell()) as u32
+    let place = cells.place(alloc, item.cell())?;
+    Ok(place as u32)
 }
 
 /// The number of the cell that each names, or the number of cells where there is none of the name.
-pub fn find_cells<'a, T: OfCell>(
+pub fn find_cells<T: OfCell>(
     alloc: Global,
-    cells: &Places<'a, Cell>,
-    items: &'a [T],
+    cells: &Places<Cell>,
+    items: &[T],
 ) -> Result<Rows<u32>, AllocError>
     requires { length cells.now ≤ 65535 }
     ensures { IfOk result (λ r. r ≡ map (λ x. cell_number cells.now (T.cell x)) items.now) }
 {
     let mut numbers = Vec::with_capacity(alloc, items.len())?;
     for item in items {
-        numbers.push(find_cell(cells, item))?;
+        numbers.push(find_cell(alloc, cells, item)?)?;
     }
     Ok(Rows::from_vec(numbers))
 }

@@ -9,8 +9,9 @@
 //!   function to an `Option`. These are what a reader of the link believes.
 //! - `specs/Survey.antt`, `Found.antt`: what has been found, by number.
 //!
-//! Names are looked up in ordered maps once, all that follows goes by numbers. A further refusal is a function in `specs` with its line
-//! in `first_fault`, and a check in `phases` with its line in `survey_phases`.
+//! Names are looked up once, all that follows goes by numbers. Cells are found in a map of all cells, ports in a map of the nets up to the
+//! last port. The nets of wires are found in one pass where the wires stand in the order of the nets, and else in a map of all nets. A
+//! further refusal is a function in `specs` with its line in `first_fault`, and a check in `phases` with its line in `survey_phases`.
 #![tactic(auto)]
 
 mod counts;

@@ -4,12 +4,11 @@
 ghost use Rattle.std.specs.Prelude.{◌≡◌, IfOk};
 
 use gs_design::Cell;
+use gs_names::NameMap;
 use gs_sdc::{DriverSpec, PortValue};
-use gs_spef::Wire;
 use gs_text::Name;
 use gs_verilog::RawInst;
 use std::alloc::{AllocError, Global};
-use std::collections::BTreeMap;
 use std::marker::Model;
 
 /// A copy of a name.
@@ -62,14 +61,6 @@ impl Named for DriverSpec {
     }
 }
 
-impl Named for Wire {
-    ghost name = { λ w. w.net };
-
-    fn name(&self) -> &[u8] {
-        self.net.as_bytes()
-    }
-}
-
 /// What names a cell.
 pub trait OfCell {
     ghost use Rattle.std.specs.Prelude.{◌≡◌, ℕ, List};
@@ -101,21 +92,18 @@ impl OfCell for DriverSpec {
 #[derive(Drop)]
 pub struct Places<'a, T: Named> {
     items: &'a [T],
-    map: BTreeMap<&'a [u8], usize>,
+    map: NameMap<usize>,
 }
 
 impl<'a, T: Named> Model for Places<'a, T> {
-    ghost use Rattle.std.specs.Prelude.{◌≡◌, ℕ, List, position};
-    ghost use Rattle.std.specs.BTreeMap.{get_by};
-    ghost use Rattle.std.specs.Cmp.Lexicographic.{slice_cmp};
-    ghost use Rattle.std.specs.Ordering.{nat_cmp};
-    ghost use Rattle.std.specs.Str.{bytes_eq};
+    ghost use Rattle.std.specs.Prelude.{List};
+    ghost use Rattle.gs_survey.specs.Lookup.{FindsFirst};
 
     ghost Value = { List T };
 
     ghost view = { λ p. p.items.now };
 
-    ghost invariant = { λ p. (q : List ℕ) → get_by (λ k. slice_cmp nat_cmp q k.now) p.map ≡ position (λ x. bytes_eq q (T.name x)) p.items.now };
+    ghost invariant = { λ p. FindsFirst T.name p.items.now p.map };
 }
 
 impl<'a, T: Named> Places<'a, T> {
@@ -127,32 +115,23 @@ impl<'a, T: Named> Places<'a, T> {
     pub fn new(alloc: Global, items: &'a [T]) -> Result<Places<'a, T>, AllocError>
         ensures { IfOk result (λ p. p ≡ items.now) }
     {
-        let mut map = BTreeMap::new(alloc);
-        for (i, item) in items.iter().enumerate() {
-            let name = item.name();
-            if map.contains_key(&name) {
-                continue;
-            }
-            map.insert(name, i)?;
+        let mut map = NameMap::new(alloc, items.len() / 8 + 1)?;
+        for i in (0..items.len()).rev() {
+            let name = Name::copy_of(alloc, items[i].name())?;
+            let _ = map.insert(name, i)?;
         }
         Ok(Places { items, map })
     }
 
-    /// How many there are.
-    pub fn len(&self) -> usize
-        ensures { result ≡ length self.now }
-    {
-        self.items.len()
-    }
-
     /// The first place with this name, or how many there are where none has it.
-    pub fn place(&self, name: &'a [u8]) -> usize
-        ensures place { result ≡ position_or_len (λ x. bytes_eq name.now (T.name x)) self.now }
-        ensures within { result ≤ length self.now }
+    pub fn place(&self, alloc: Global, name: &[u8]) -> Result<usize, AllocError>
+        ensures place { IfOk result (λ n. n ≡ position_or_len (λ x. bytes_eq name.now (T.name x)) self.now) }
+        ensures within { IfOk result (λ n. n ≤ length self.now) }
     {
-        match self.map.get(&name) {
-            Some(place) => *place,
-            None => self.items.len(),
+        let key = Name::copy_of(alloc, name)?;
+        match self.map.get(key) {
+            Some(place) => Ok(*place),
+            None => Ok(self.items.len()),
         }
     }
 }

@@ -2,11 +2,13 @@
 #![tactic(auto)]
 
 ghost use Rattle.std.specs.Prelude.{◌≡◌, ◌++◌, ◌≤◌, ◌<◌, All, IfOk, None, length, map};
+ghost use Rattle.std.specs.List.{IsDistinct};
+ghost use Rattle.std.specs.Str.{bytes_eq};
 ghost use Rattle.gs_survey.specs.First.{Checks, first_some, or_else};
 ghost use Rattle.gs_survey.specs.Found.{AreDriving, AreFound};
 ghost use Rattle.gs_survey.specs.Instances.{inst_fault, open_pin, unknown_driving_pin, unknown_pin};
-ghost use Rattle.gs_survey.specs.Limits.{limit_fault, unknown_port};
-ghost use Rattle.gs_survey.specs.Numbers.{net_number};
+ghost use Rattle.gs_survey.specs.Limits.{limit_fault};
+ghost use Rattle.gs_survey.specs.Lookup.{IsFront};
 ghost use Rattle.gs_survey.specs.Survey.{AreNamed, ArePlaced, AreUsed};
 ghost use Rattle.gs_survey.specs.Uses.{input_ports, net_fault, output_ports};
 ghost use Rattle.gs_verilog.specs.Circuit.{IsNetlist};
@@ -15,7 +17,7 @@ use crate::error::LinkErr;
 use crate::instances::{
     check_cells, check_driving_cells, check_driving_pins, check_open, check_pins, find_cells,
 };
-use crate::limits::{check_nets, check_ports, find_nets};
+use crate::limits::{find_ports, find_wires};
 use crate::names::Places;
 use crate::pins::{find_inputs, find_outputs};
 use crate::surveyed::{Named, Placed, Used};
@@ -146,122 +148,58 @@ pub fn check_uses(
     check_driven(alloc, netlist.nets(), &used.driven, &used.read)
 }
 
-/// The numbers of the nets that constraints and wires name.
-pub fn find_named<'a>(
+/// The numbers of the nets that constraints and wires name, or the first refusal: clocks and input delays are of input ports, output
+/// delays of output ports, loads and driving cells of ports, and wires of nets. All ports are among the nets in front.
+pub fn find_named(
     alloc: Global,
-    nets: &Places<'a, Name>,
-    wires: &'a Wires,
-    limits: &'a Constraints,
-) -> Result<Named, AllocError>
-    ensures { IfOk result (λ n. AreNamed nets.now wires.now limits.now n) }
-{
-    let clocks = find_nets(alloc, nets, limits.clock_ports())?;
-    let inputs = find_nets(alloc, nets, limits.inputs())?;
-    let outputs = find_nets(alloc, nets, limits.outputs())?;
-    let loads = find_nets(alloc, nets, limits.loads())?;
-    let drivers = find_nets(alloc, nets, limits.drivers())?;
-    let wires = find_nets(alloc, nets, wires.as_slice())?;
-    Ok(Named {
-        clocks,
-        inputs,
-        outputs,
-        loads,
-        drivers,
-        wires,
-    })
-}
-
-// Loads and driving cells are of ports.
-fn check_loads<'a>(
-    alloc: Global,
-    nets: &Places<'a, Name>,
-    ports: &Tally,
-    named: &Named,
-    limits: &Constraints,
-) -> Result<(), LinkErr>
-    requires loads { named.now.loads ≡ map (λ v. net_number nets.now v.port) limits.now.loads }
-    requires drivers { named.now.drivers ≡ map (λ d. net_number nets.now d.port) limits.now.drivers }
-    ensures { Checks (or_else (first_some (λ v. unknown_port nets.now ports.now v.port) limits.now.loads) (first_some (λ d. unknown_port nets.now ports.now d.port) limits.now.drivers)) result }
-{
-    if let Err(error) = check_ports(alloc, nets, ports, named.loads.as_slice(), limits.loads()) {
-        return Err(error);
-    }
-    check_ports(
-        alloc,
-        nets,
-        ports,
-        named.drivers.as_slice(),
-        limits.drivers(),
-    )
-}
-
-/// Clocks and input delays are of input ports, output delays of output ports, loads and driving cells of ports.
-pub fn check_all_ports<'a>(
-    alloc: Global,
-    nets: &Places<'a, Name>,
-    used: &Used,
-    ports: &Tally,
-    named: &Named,
-    limits: &Constraints,
-) -> Result<(), LinkErr>
-    requires clocks { named.now.clocks ≡ map (net_number nets.now) limits.now.clock_ports }
-    requires inputs { named.now.inputs ≡ map (λ v. net_number nets.now v.port) limits.now.inputs }
-    requires outputs { named.now.outputs ≡ map (λ v. net_number nets.now v.port) limits.now.outputs }
-    requires loads { named.now.loads ≡ map (λ v. net_number nets.now v.port) limits.now.loads }
-    requires drivers { named.now.drivers ≡ map (λ d. net_number nets.now d.port) limits.now.drivers }
-    ensures { Checks (or_else (first_some (unknown_port nets.now used.now.inputs) limits.now.clock_ports) (or_else (first_some (λ v. unknown_port nets.now used.now.inputs v.port) limits.now.inputs) (or_else (first_some (λ v. unknown_port nets.now used.now.outputs v.port) limits.now.outputs) (or_else (first_some (λ v. unknown_port nets.now ports.now v.port) limits.now.loads) (first_some (λ d. unknown_port nets.now ports.now d.port) limits.now.drivers))))) result }
-{
-    let inputs = &used.inputs;
-    if let Err(error) = check_ports(
-        alloc,
-        nets,
-        inputs,
-        named.clocks.as_slice(),
-        limits.clock_ports(),
-    ) {
-        return Err(error);
-    }
-    if let Err(error) = check_ports(
-        alloc,
-        nets,
-        inputs,
-        named.inputs.as_slice(),
-        limits.inputs(),
-    ) {
-        return Err(error);
-    }
-    if let Err(error) = check_ports(
-        alloc,
-        nets,
-        &used.outputs,
-        named.outputs.as_slice(),
-        limits.outputs(),
-    ) {
-        return Err(error);
-    }
-    check_loads(alloc, nets, ports, named, limits)
-}
-
-/// Constraints are of ports, and wires of nets.
-pub fn check_limits<'a>(
-    alloc: Global,
-    nets: &Places<'a, Name>,
     netlist: &Netlist,
+    front: &Places<Name>,
     used: &Used,
     ports: &Tally,
-    named: &Named,
     wires: &Wires,
     limits: &Constraints,
-) -> Result<(), LinkErr>
-    requires nets { nets.now ≡ netlist.now.nets }
+) -> Result<Named, LinkErr>
+    requires front { IsFront front.now netlist.now.nets }
     requires inputs { used.now.inputs ≡ input_ports netlist.now.ports }
     requires outputs { used.now.outputs ≡ output_ports netlist.now.ports }
     requires ports { ports.now ≡ input_ports netlist.now.ports ++ output_ports netlist.now.ports }
-    requires named { AreNamed netlist.now.nets wires.now limits.now named.now }
-    ensures { Checks (limit_fault netlist.now wires.now limits.now) result }
+    requires inputs_below { All (λ n. n < length front.now) used.now.inputs }
+    requires outputs_below { All (λ n. n < length front.now) used.now.outputs }
+    requires ports_below { All (λ n. n < length front.now) ports.now }
+    requires differ { IsDistinct bytes_eq netlist.now.nets }
+    ensures fault { Checks (limit_fault netlist.now wires.now limits.now) result }
+    ensures named { IfOk result (λ n. AreNamed netlist.now.nets wires.now limits.now n) }
 {
-    if let Err(error) = check_all_ports(alloc, nets, used, ports, named, limits) {
-        return Err(error);
+    let nets = netlist.nets();
+    let clocks = match find_ports(alloc, nets, front, &used.inputs, limits.clock_ports()) {
+        Ok(clocks) => clocks,
+        Err(error) => return Err(error),
+    };
+    let inputs = match find_ports(alloc, nets, front, &used.inputs, limits.inputs()) {
+        Ok(inputs) => inputs,
+        Err(error) => return Err(error),
+    };
+    let outputs = match find_ports(alloc, nets, front, &used.outputs, limits.outputs()) {
+        Ok(outputs) => outputs,
+        Err(error) => return Err(error),
+    };
+    let loads = match find_ports(alloc, nets, front, ports, limits.loads()) {
+        Ok(loads) => loads,
+        Err(error) => return Err(error),
+    };
+    let drivers = match find_ports(alloc, nets, front, ports, limits.drivers()) {
+        Ok(drivers) => drivers,
+        Err(error) => return Err(error),
+    };
+    match find_wires(alloc, nets, wires.as_slice()) {
+        Ok(wires) => Ok(Named {
+            clocks,
+            inputs,
+            outputs,
+            loads,
+            drivers,
+            wires,
+        }),
+        Err(error) => Err(error),
     }
-    check_nets(alloc, nets, named.wires.as_slice(), wires.as_slice())
 }

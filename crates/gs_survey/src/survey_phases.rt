@@ -2,6 +2,8 @@
 #![tactic(auto)]
 
 ghost use Rattle.std.specs.Prelude.{◌≡◌, ◌++◌, ◌<◌, All, IfOk, None, length};
+ghost use Rattle.std.specs.List.{IsDistinct};
+ghost use Rattle.std.specs.Str.{bytes_eq};
 ghost use Rattle.gs_alternatives.specs.Choices.{AreChoices};
 ghost use Rattle.gs_survey.specs.Counts.{arc_fault, count_fault, size_fault};
 ghost use Rattle.gs_survey.specs.First.{Checks, first_some};
@@ -15,10 +17,9 @@ ghost use Rattle.gs_verilog.specs.Circuit.{IsNetlist};
 
 use crate::counts::{check_arcs, check_counts};
 use crate::error::LinkErr;
+use crate::limits::count_to_last;
 use crate::names::Places;
-use crate::phases::{
-    check_insts, check_limits, check_uses, find_driven, find_named, find_placed, find_uses,
-};
+use crate::phases::{check_insts, check_uses, find_driven, find_named, find_placed, find_uses};
 use crate::surveyed::{Named, Placed, Survey, Used};
 use gs_alternatives::{Alternatives, alternatives_of};
 use gs_design::{Cell, Library, alternatives_are_kept};
@@ -78,17 +79,15 @@ fn survey_limits(
     requires inputs { used.now.inputs ≡ input_ports netlist.now.ports }
     requires outputs { used.now.outputs ≡ output_ports netlist.now.ports }
     requires inside { All (λ n. n < length netlist.now.nets) (input_ports netlist.now.ports ++ output_ports netlist.now.ports) }
+    requires differ { IsDistinct bytes_eq netlist.now.nets }
     ensures fault { Checks (limit_fault netlist.now wires.now limits.now) result }
     ensures named { IfOk result (λ n. AreNamed netlist.now.nets wires.now limits.now n) }
 {
-    let nets = Places::new(alloc, netlist.nets())?;
-    let named = find_named(alloc, &nets, wires, limits)?;
     let inputs = Rows::from_vec(Vec::from_slice(alloc, used.inputs.as_slice())?);
     let ports = find_driven(alloc, &inputs, &used.outputs, netlist.nets().len())?;
-    match check_limits(alloc, &nets, netlist, used, &ports, &named, wires, limits) {
-        Ok(()) => Ok(named),
-        Err(error) => Err(error),
-    }
+    let count = count_to_last(ports.as_slice(), netlist.nets().len());
+    let front = Places::new(alloc, &netlist.nets()[..count])?;
+    find_named(alloc, netlist, &front, used, &ports, wires, limits)
 }
 
 // Each cell that is used has an arc from each input, where it is a gate.

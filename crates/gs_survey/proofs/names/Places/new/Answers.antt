@@ -1,18 +1,24 @@
-use Rattle.std.proofs.Common.{sym, ◌∙◌, arith}
-use Rattle.std.proofs.lemmas.Map.Text.{btree_map_updates_str}
-use Rattle.std.specs.BTreeMap.{get_by}
-use Rattle.std.specs.Cmp.Lexicographic.{slice_cmp}
-use Rattle.std.specs.Ordering.{nat_cmp}
-use Rattle.gs_survey.proofs.Places.{first_more, first_stays}
+use Rattle.std.proofs.Common.{◌≡◌, ◌-◌, ap, sym, ◌∙◌, arith}
+use Rattle.std.proofs.lemmas.Iterator.Adapters.{position_from-zero}
+use Rattle.std.specs.Str.{bytes_eq}
+use Rattle.gs_names.specs.Names.{find}
+use Rattle.gs_survey.proofs.Places.{found_before}
 use Rattle.gs_survey.proofs.names.Places.new.Goals as goal
 
-pub loop-i-preserved-then-contains_key : goal.loop-i-preserved-then-contains_key
-loop-i-preserved-then-contains_key g c = λ q.
-    first_stays g.T.Named.name c.args.items.now c.loop-i.i (omega arith) c.index-items-i.result c.index-items-i.is c.name-name.result.now c.name-name.ensures
-    (λ q. get_by (λ k. slice_cmp nat_cmp q k.now) c.loop-i.map) c.loop-i.invariant (sym c.if-contains_key.ensures) q
-
 pub loop-i-preserved : goal.loop-i-preserved
-loop-i-preserved g c = λ q.
-    btree_map_updates_str c.name-name.result.now c.loop-i.map c.insert.new.self _ c.in_ok-insert.ensures.updates q
-    ∙ first_more g.T.Named.name c.args.items.now c.loop-i.i (omega arith) c.index-items-i.result c.index-items-i.is c.name-name.result.now c.name-name.ensures
-    (λ q. get_by (λ k. slice_cmp nat_cmp q k.now) c.loop-i.map) c.loop-i.invariant (sym c.if-contains_key.ensures) q
+loop-i-preserved g c = record {
+  within = omega arith;
+  buckets = c.in_ok-insert.ensures.buckets;
+  finds = λ q.
+      c.in_ok-insert.ensures.updates q
+      ∙ found_before g.T.Named.name c.args.items.now c.loop-i.i (c.loop-i.i - 1) c.index-items-i.result (omega arith) (omega arith) c.in_ok-name.name
+      (c.in_ok-name.ensures ∙ c.name.ensures ∙ ap g.T.Named.name c.index-items-i.is) (find c.loop-i.map) c.loop-i.invariant.finds q;
+}
+
+pub invariant_of-result : goal.invariant_of-result
+invariant_of-result g c = record {
+  buckets = c.loop-i.invariant.buckets;
+  finds = λ q.
+      let end : c.loop-i.i ≡ 0 = omega arith in
+      rw end at (c.loop-i.invariant.finds q) ∙ sym (position_from-zero (λ x. bytes_eq q (g.T.Named.name x)) c.args.items.now);
+}
