@@ -6,6 +6,7 @@ use Rattle.gs_design.specs.declared.cell.Cell.{Cell}
 use Rattle.gs_link.proofs.WellLists.{lt_is, none_at, unless}
 use Rattle.gs_survey.specs.Found.{AreFound, IsCellOf}
 use Rattle.gs_survey.specs.Instances.{cell_number, has_cell, unknown_cell}
+use Rattle.gs_survey.specs.Uses.{output_net, output_nets}
 use Rattle.gs_verilog.specs.declared.parts.RawInst.{RawInst}
 
 module _ (cells : List Cell) (insts : List RawInst) (found : List ℕ) (h : AreFound cells insts found) where
@@ -23,3 +24,7 @@ module _ (cells : List Cell) (insts : List RawInst) (found : List ℕ) (h : AreF
     is = found_at g i lt ∙ ap (λ (x : RawInst). cell_number cells x.cell) (sym is);
     inside = found_in g i lt;
   }
+
+pub output_here : (cells : List Cell) (insts : List RawInst) (gates : List ℕ) → gates ≡ output_nets cells insts
+    → (g : ℕ) (i : RawInst) → g < length insts → i ≡ get_or insts g i → get_or gates g 0 ≡ output_net cells i
+output_here cells insts gates e g i lt is = rw e (get_or-map (output_net cells) insts g i 0 lt) ∙ ap (output_net cells) (sym is)

@@ -1,4 +1,5 @@
 pub mod FoundLaws
+pub mod InputNets
 pub mod Growing
 pub mod WellLists
 pub mod WellSound

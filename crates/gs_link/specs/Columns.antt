@@ -1,6 +1,6 @@
 -- The columns of a linked design, from numbers that were found before. No public clause names this.
 
-use Rattle.std.specs.Prelude.{ℕ, ◌<◌, ◌≤◌, List, map, length, slice_index, slice_index_or, All, None, ℤ, pos, ◌-ℤ◌, if◌then◌else◌}
+use Rattle.std.specs.Prelude.{ℕ, ◌≡◌, ◌<◌, ◌≤◌, List, map, length, take, slice_index, slice_index_or, All, None, ℤ, pos, ◌-ℤ◌, if◌then◌else◌}
 use Rattle.gs_alternatives.specs.Choices.{stretch_at}
 use Rattle.gs_alternatives.specs.declared.choices.Stretch.{Stretch}
 use Rattle.gs_design.specs.Cells.{cell_at}
@@ -28,6 +28,10 @@ row_of cells stretches numbers i = inst_row stretches (cell_number cells i.cell)
 -- the new numbers of the nets at its inputs
 abbrev pub new_inputs : List Cell → (numbers : List ℕ) → RawInst → List ℕ
 new_inputs cells numbers i = map (λ p. slice_index numbers (net_at_pin i.links p)) (inputs_of (cell_of cells i))
+
+-- a list that has these first
+abbrev pub BeginsWith : (first all : List ℕ) → Type 0
+BeginsWith first all = first ≡ take (length first) all
 
 abbrev pub raw_name : RawInst → List ℕ
 raw_name i = i.name

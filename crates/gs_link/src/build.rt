@@ -7,10 +7,11 @@ ghost use Rattle.gs_amount.specs.Amount.{IsLimited};
 ghost use Rattle.gs_design.specs.Ends.{data_pins, pins_on};
 ghost use Rattle.gs_design.specs.Insts.{AreInsts, inst_at, insts_of};
 ghost use Rattle.gs_design.specs.Nets.{AreNets, nets_of};
-ghost use Rattle.gs_link.specs.Columns.{AreInside, AreReadable, end_of_port, net_row, new_inputs, raw_name, row_of};
+ghost use Rattle.gs_link.specs.Columns.{AreInside, AreReadable, BeginsWith, end_of_port, net_row, new_inputs, raw_name, row_of};
 ghost use Rattle.gs_survey.specs.Found.{AreFound};
 ghost use Rattle.gs_link.specs.Linked.{IsByLevel, edges_of, pin_end};
 ghost use Rattle.gs_survey.specs.Numbers.{is_one_of, net_name};
+ghost use Rattle.gs_survey.specs.Uses.{all_input_nets, output_nets};
 ghost use Rattle.gs_link.specs.Pieces.{IsLoopErr};
 ghost use Rattle.gs_survey.specs.declared.error.LinkErr.TheVariants as errors;
 
@@ -37,10 +38,14 @@ pub fn build_insts(
     cells: &[Cell],
     insts: &[RawInst],
     found: &Rows<u32>,
+    gates: &Rows<u32>,
+    reads: &[u32],
     alternatives: Alternatives,
     numbers: &Rows<u32>,
 ) -> Result<Insts, AllocError>
     requires found { AreFound cells.now insts.now found.now }
+    requires gates { gates.now ≡ output_nets cells.now insts.now }
+    requires reads { BeginsWith (all_input_nets cells.now insts.now) reads.now }
     requires few { length insts.now < 2097152 }
     requires many { length alternatives.stretches ≡ length cells.now }
     requires are { AreInsts alternatives.choices (map (row_of cells.now alternatives.stretches numbers.now) insts.now) (map (new_inputs cells.now numbers.now) insts.now) (map raw_name insts.now) }
@@ -52,9 +57,17 @@ pub fn build_insts(
         &alternatives.stretches,
         numbers.as_slice(),
         found.as_slice(),
+        gates.as_slice(),
         insts,
     )?;
-    let inputs = find_new_inputs(alloc, cells, numbers.as_slice(), found.as_slice(), insts)?;
+    let inputs = find_new_inputs(
+        alloc,
+        cells,
+        numbers.as_slice(),
+        found.as_slice(),
+        reads,
+        insts,
+    )?;
     let names = find_names(alloc, insts)?;
     let Alternatives {
         choices,

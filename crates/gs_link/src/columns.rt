@@ -1,19 +1,19 @@
 //! The columns of the instances of a design.
 #![tactic(auto)]
 
-ghost use Rattle.std.specs.Prelude.{◌≡◌, ◌≤◌, ◌<◌, ◌*◌, IfOk, length, map, slice_index};
-ghost use Rattle.gs_design.specs.Load.{output_pin};
-ghost use Rattle.gs_link.specs.Columns.{inst_row, new_inputs, raw_name, row_of};
+ghost use Rattle.std.specs.Prelude.{◌≡◌, ◌≤◌, ◌<◌, ◌+◌, IfOk, drop, length, map, slice_index, take};
+ghost use Rattle.gs_link.specs.Columns.{BeginsWith, inst_row, new_inputs, raw_name, row_of};
 ghost use Rattle.gs_survey.specs.Found.{AreFound, IsCellOf};
-ghost use Rattle.gs_survey.specs.Uses.{inputs_of, net_at_pin};
+ghost use Rattle.gs_survey.specs.Instances.{cell_of};
+ghost use Rattle.gs_survey.specs.Uses.{all_input_nets, inputs_of, output_net, output_nets};
 
 use crate::values::number_at;
 use gs_alternatives::Stretch;
-use gs_design::{Cell, CellPin, InstRow, NetId};
+use gs_design::{Cell, InstRow, NetId};
 use gs_list::{Grouped, Rows};
-use gs_survey::{cell_for, copy_of, inputs, net_at, output_of};
+use gs_survey::{cell_for, copy_of, inputs};
 use gs_text::{Name, Names};
-use gs_verilog::{Link, RawInst};
+use gs_verilog::RawInst;
 use std::alloc::{AllocError, Global};
 
 fn row_with(stretches: &Rows<Stretch>, number: u32, output: u32) -> InstRow
@@ -29,20 +29,20 @@ fn row_with(stretches: &Rows<Stretch>, number: u32, output: u32) -> InstRow
     }
 }
 
-// The row of an instance.
+// The row of an instance, whose cell has this number and whose output is on this net.
 fn row_for(
     cells: &[Cell],
     stretches: &Rows<Stretch>,
     numbers: &[u32],
     number: u32,
+    net: u32,
     inst: &RawInst,
 ) -> InstRow
     requires cell { IsCellOf cells.now inst.now number }
+    requires net { net ≡ output_net cells.now inst.now }
     requires many { length stretches.now ≡ length cells.now }
     ensures { result ≡ row_of cells.now stretches.now numbers.now inst.now }
 {
-    let cell = cell_for(cells, number, inst);
-    let net = net_at(inst.links.as_slice(), output_of(cell));
     row_with(stretches, number, number_at(numbers, net as usize))
 }
 
@@ -53,67 +53,70 @@ pub fn find_rows(
     stretches: &Rows<Stretch>,
     numbers: &[u32],
     found: &[u32],
+    gates: &[u32],
     insts: &[RawInst],
 ) -> Result<Rows<InstRow>, AllocError>
     requires found { AreFound cells.now insts.now found.now }
+    requires gates { gates.now ≡ output_nets cells.now insts.now }
     requires many { length stretches.now ≡ length cells.now }
     ensures { IfOk result (λ r. r ≡ map (row_of cells.now stretches.now numbers.now) insts.now) }
 {
     let mut rows = Vec::with_capacity(alloc, insts.len())?;
     for (i, inst) in insts.iter().enumerate() {
-        rows.push(row_for(cells, stretches, numbers, found[i], inst))?;
+        rows.push(row_for(cells, stretches, numbers, found[i], gates[i], inst))?;
     }
     Ok(Rows::from_vec(rows))
 }
 
-// The new numbers of the nets at these pins.
-fn new_nets(
-    alloc: Global,
-    numbers: &[u32],
-    links: &[Link],
-    pins: &[CellPin],
-) -> Result<Vec<NetId>, AllocError>
-    ensures { IfOk result (λ v. v.items ≡ map (λ p. slice_index numbers.now (net_at_pin links.now p)) pins.now) }
+// The new numbers of these nets.
+fn new_nets(alloc: Global, numbers: &[u32], nets: &[u32]) -> Result<Vec<NetId>, AllocError>
+    ensures { IfOk result (λ v. v.items ≡ map (λ n. slice_index numbers.now n) nets.now) }
 {
-    let mut nets = Vec::with_capacity(alloc, pins.len())?;
-    for pin in pins {
-        nets.push(NetId(number_at(numbers, net_at(links, pin) as usize)))?;
+    let mut ids = Vec::with_capacity(alloc, nets.len())?;
+    for i in 0..nets.len() {
+        ids.push(NetId(number_at(numbers, nets[i] as usize)))?;
     }
-    Ok(nets)
+    Ok(ids)
 }
 
-// The new numbers of the nets at an instance's inputs.
-fn inputs_for(
-    alloc: Global,
-    cells: &[Cell],
-    numbers: &[u32],
-    number: u32,
-    inst: &RawInst,
-) -> Result<Vec<NetId>, AllocError>
+// How many inputs the cell of an instance has.
+fn input_count(cells: &[Cell], number: u32, inst: &RawInst) -> usize
     requires { IsCellOf cells.now inst.now number }
-    ensures nets { IfOk result (λ v. v.items ≡ new_inputs cells.now numbers.now inst.now) }
-    ensures few { IfOk result (λ v. length v.items ≤ 6) }
+    ensures count { result ≡ length (inputs_of (cell_of cells.now inst.now)) }
+    ensures few { result ≤ 6 }
 {
-    let cell = cell_for(cells, number, inst);
-    new_nets(alloc, numbers, inst.links.as_slice(), inputs(cell))
+    inputs(cell_for(cells, number, inst)).len()
 }
 
-/// The nets at the inputs of the instances, by their new numbers.
+// So many of these from a place on.
+fn part_of(nets: &[NetId], start: usize, count: usize) -> &[NetId]
+    requires { start + count ≤ length nets.now }
+    ensures { result.now ≡ take count (drop start nets.now) }
+{
+    &nets[start..start + count]
+}
+
+/// The nets at the inputs of the instances, by their new numbers. The nets that are read are given by instance and pin.
 pub fn find_new_inputs(
     alloc: Global,
     cells: &[Cell],
     numbers: &[u32],
     found: &[u32],
+    reads: &[u32],
     insts: &[RawInst],
 ) -> Result<Grouped<NetId>, AllocError>
     requires found { AreFound cells.now insts.now found.now }
+    requires reads { BeginsWith (all_input_nets cells.now insts.now) reads.now }
     requires few { length insts.now < 2097152 }
     ensures { IfOk result (λ r. r ≡ map (new_inputs cells.now numbers.now) insts.now) }
 {
+    let nets = new_nets(alloc, numbers, reads)?;
     let mut all = Grouped::empty(alloc)?;
+    let mut start = 0;
     for (i, inst) in insts.iter().enumerate() {
-        let nets = inputs_for(alloc, cells, numbers, found[i], inst)?;
-        all.push(nets.as_slice())?;
+        let count = input_count(cells, found[i], inst);
+        all.push(part_of(nets.as_slice(), start, count))?;
+        start += count;
     }
     Ok(all)
 }

@@ -4,12 +4,13 @@
 ghost use Rattle.std.specs.Prelude.{◌≡◌, ◌<◌, IfErr, IfOk, None, length, map};
 ghost use Rattle.std.specs.List.{range_with_len};
 ghost use Rattle.gs_alternatives.specs.Choices.{AreChoices};
+ghost use Rattle.gs_link.specs.Columns.{BeginsWith};
 ghost use Rattle.gs_link.specs.Linked.{IsByLevel, edges_of, linked_ends, linked_insts, linked_nets};
 ghost use Rattle.gs_link.specs.Pieces.{ArePieces, IsLoopErr, IsNumbering};
 ghost use Rattle.gs_survey.specs.Fault.{first_fault};
 ghost use Rattle.gs_survey.specs.Found.{AreFound};
 ghost use Rattle.gs_survey.specs.Survey.{AreUsed, IsSurvey};
-ghost use Rattle.gs_survey.specs.Uses.{input_ports, new_number, output_ports, used_nets};
+ghost use Rattle.gs_survey.specs.Uses.{all_input_nets, input_ports, new_number, output_nets, output_ports, used_nets};
 ghost use Rattle.gs_verilog.specs.Circuit.{IsNetlist};
 
 use crate::build::{build_ends, build_insts, build_nets, build_order};
@@ -38,12 +39,16 @@ fn link_insts(
     alloc: Global,
     files: &Files,
     found: &Rows<u32>,
+    gates: &Rows<u32>,
+    reads: &[u32],
     alternatives: Alternatives,
     numbers: &Rows<u32>,
 ) -> Result<Insts, AllocError>
     requires kept { IsNetlist files.now.netlist.now }
     requires unrefused { first_fault files.now.netlist.now files.now.library.now files.now.wires.now files.now.limits.now ≡ None }
     requires found { AreFound files.now.library.now.cells files.now.netlist.now.insts found.now }
+    requires gates { gates.now ≡ output_nets files.now.library.now.cells files.now.netlist.now.insts }
+    requires reads { BeginsWith (all_input_nets files.now.library.now.cells files.now.netlist.now.insts) reads.now }
     requires choices { AreChoices files.now.library.now.cells alternatives.choices alternatives.stretches }
     requires numbers { numbers.now ≡ map (new_number files.now.library.now.cells files.now.netlist.now) (range_with_len 0 (length files.now.netlist.now.nets)) }
     ensures { IfOk result (λ i. i ≡ linked_insts files.now.library.now.cells files.now.netlist.now) }
@@ -53,6 +58,8 @@ fn link_insts(
         files.library.cells.as_slice(),
         files.netlist.insts(),
         found,
+        gates,
+        reads,
         alternatives,
         numbers,
     )
@@ -152,7 +159,15 @@ fn link_parts(
     ensures pieces { IfOk result (λ p. ArePieces files.now.library.now.cells files.now.netlist.now files.now.wires.now files.now.limits.now p) }
     ensures fault { IfErr result (λ e. IsLoopErr files.now.netlist.now.nets (used_nets files.now.library.now.cells files.now.netlist.now) (edges_of files.now.library.now.cells (linked_insts files.now.library.now.cells files.now.netlist.now)) e) }
 {
-    let insts = link_insts(alloc, files, found, alternatives, &numbering.numbers)?;
+    let insts = link_insts(
+        alloc,
+        files,
+        found,
+        &used.gates,
+        used.read.as_slice(),
+        alternatives,
+        &numbering.numbers,
+    )?;
     let order = match link_order(alloc, files, &insts, &numbering.used) {
         Ok(order) => order,
         Err(error) => return Err(error),

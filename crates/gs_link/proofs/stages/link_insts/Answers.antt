@@ -9,6 +9,12 @@ use Rattle.gs_link.proofs.stages.link_insts.Goals as goal
 pub build_insts-requires-clause-found : goal.build_insts-requires-clause-found
 build_insts-requires-clause-found c = rw (c.as_slice.ensures, c.insts.ensures.value) c.requires.found
 
+pub build_insts-requires-clause-gates : goal.build_insts-requires-clause-gates
+build_insts-requires-clause-gates c = rw (c.as_slice.ensures, c.insts.ensures.value) c.requires.gates
+
+pub build_insts-requires-clause-reads : goal.build_insts-requires-clause-reads
+build_insts-requires-clause-reads c = rw (c.as_slice.ensures, c.insts.ensures.value) c.requires.reads
+
 pub build_insts-requires-clause-few : goal.build_insts-requires-clause-few
 build_insts-requires-clause-few c = rw c.insts.ensures.value (sound c.args.files.now.netlist.now c.args.files.now.library.now c.args.files.now.wires.now c.args.files.now.limits.now c.requires.unrefused).few_insts
 
