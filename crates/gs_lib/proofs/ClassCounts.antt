@@ -1,8 +1,7 @@
 -- How many cells have a key, one cell after another.
 
-use Rattle.std.proofs.Common.{◌≡◌, ◌∙◌, ap, sym, subst, refl, ℕ, zero, suc, ◌+◌, ◌<◌, ◌≤◌, ◌==◌, nat_lt, List, [], ◌∷◌, ◌++◌, length, get_or, map, take, filter, Bool, true, false, cond, ◌&&◌, ◌||◌, Option, None, Some, arith, eqb}
-use Rattle.std.specs.BTreeMap.{BTreeMap, get, is_at}
-use Rattle.std.specs.Bool.{Decides}
+use Rattle.std.proofs.Common.{◌≡◌, ◌∙◌, ap, sym, refl, ℕ, zero, suc, ◌+◌, ◌<◌, ◌≤◌, nat_lt, List, [], ◌∷◌, ◌++◌, length, get_or, map, take, filter, Bool, true, false, cond, ◌&&◌, ◌||◌, Option, None, Some, arith, eqb}
+use Rattle.std.specs.BTreeMap.{is_at}
 use Rattle.std.specs.Cmp.Lexicographic.{slice_cmp}
 use Rattle.std.specs.List.{list_any}
 use Rattle.std.specs.Option.{unwrap_or}
@@ -24,11 +23,11 @@ use Rattle.gs_lib.proofs.Lists.{filter_push}
 
 -- ---- keys
 
-and_first : (a b : Bool) → a && b ≡ true → a ≡ true
+pub and_first : (a b : Bool) → a && b ≡ true → a ≡ true
 and_first true b h = refl
 and_first false b h = h
 
-and_second : (a b : Bool) → a && b ≡ true → b ≡ true
+pub and_second : (a b : Bool) → a && b ≡ true → b ≡ true
 and_second true b h = h
 and_second false b h = let never : false ≡ true = h in cc
 
@@ -128,12 +127,15 @@ module _ (cells : List Cell) (i : ℕ) (d : Cell) (lt : i < length cells) where
   more_is : more ≡ so_far ++ c ∷ []
   more_is = map_more cell_lists cells i d lt
 
+  pub passed_more : (p : CellLists → Bool) → length (filter p more) ≡ length (filter p so_far) + cond (p c) 1 0
+  passed_more p =
+      ap (λ cs. length (filter p cs)) more_is
+      ∙ ap length (filter_push p so_far c)
+      ∙ length-append (filter p so_far) (filter p (c ∷ []))
+      ∙ ap (λ n. length (filter p so_far) + n) (one_by p c (p c) refl)
+
   pub count_more : (q : Key) → key_count q more ≡ key_count q so_far + cond (has_key q c) 1 0
-  count_more q =
-      ap (key_count q) more_is
-      ∙ ap length (filter_push (has_key q) so_far c)
-      ∙ length-append (filter (has_key q) so_far) (filter (has_key q) (c ∷ []))
-      ∙ ap (λ n. key_count q so_far + n) (one_by (has_key q) c (has_key q c) refl)
+  count_more q = passed_more (has_key q)
 
   small_with : (q : Key) (o : Option Key) (b : Bool) → class_key c ≡ o → matches_by q o ≡ b → key_count q so_far ≤ 1024
       → ((k : Key) → o ≡ Some k → key_count k more ≤ 1024) → key_count q more ≤ 1024
@@ -178,14 +180,17 @@ size_by cells c (Some k) e small = omega (arith, class_of cells c k e, small k)
 fine : (n : ℕ) → n ≤ 1024 → nat_lt 1024 n ≡ false
 fine n le = grind (arith, nat_tests)
 
-none_large : (all cs : List CellLists) → ((q : Key) → key_count q all ≤ 1024) → list_any (λ c. nat_lt 1024 (length (filter (alike_lists c) all))) cs ≡ false
+none_large : (all cs : List CellLists) → ((c : CellLists) → length (filter (alike_lists c) all) ≤ 1024) → list_any (λ c. nat_lt 1024 (length (filter (alike_lists c) all))) cs ≡ false
 none_large all [] small = refl
 none_large all (c ∷ cs) small =
-    ap (λ b. b || list_any (λ x. nat_lt 1024 (length (filter (alike_lists x) all))) cs) (fine (length (filter (alike_lists c) all)) (size_by all c (class_key c) refl small))
+    ap (λ b. b || list_any (λ x. nat_lt 1024 (length (filter (alike_lists x) all))) cs) (fine (length (filter (alike_lists c) all)) (small c))
     ∙ none_large all cs small
 
+pub none_alike : (cells : List CellLists) → ((c : CellLists) → length (filter (alike_lists c) cells) ≤ 1024) → has_large_class cells ≡ false
+none_alike cells small = none_large cells cells small
+
 pub no_large : (cells : List CellLists) → ((q : Key) → key_count q cells ≤ 1024) → has_large_class cells ≡ false
-no_large cells small = none_large cells cells small
+no_large cells small = none_alike cells (λ c. size_by cells c (class_key c) refl small)
 
 fewer_by : (p : CellLists → Bool) (x : CellLists) (ys xs : List CellLists) (b : Bool) → p x ≡ b → length (filter p ys) ≤ length (filter p xs) → length (filter p (x ∷ ys)) ≤ length (filter p (x ∷ xs))
 fewer_by p x ys xs true e h = rw e (omega (arith, h))

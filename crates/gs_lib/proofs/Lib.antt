@@ -4,6 +4,8 @@ pub mod ClassLaws
 pub mod Drafts
 pub mod Kept
 pub mod Laws
+pub mod Groups
+pub mod Inputs
 pub mod Lists
 pub mod Made
 pub mod Names

@@ -1,6 +1,6 @@
 -- Classes of cells that may take each other's place, by a key. No public clause names this.
 
-use Rattle.std.specs.Prelude.{ℕ, ◌==◌, ◌&&◌, Bool, true, false, cond, List, [], ◌∷◌, length, filter, map, Option, None, Some}
+use Rattle.std.specs.Prelude.{ℕ, ◌+◌, ◌*◌, ◌%◌, ◌==◌, ◌&&◌, fold, Bool, true, false, List, [], ◌∷◌, length, filter, map, Option, None, Some}
 use Rattle.std.specs.Cmp.Lexicographic.{slice_cmp}
 use Rattle.std.specs.List.{flat_map}
 use Rattle.std.specs.Ordering.{nat_cmp, ordering_then}
@@ -46,3 +46,15 @@ has_key k c = matches_by k (class_key c)
 -- how many of the cells have the key
 abbrev pub key_count : Key → List CellLists → ℕ
 key_count k cells = length (filter (has_key k) cells)
+
+-- the group of a footprint, of so many groups
+abbrev pub group_of : (groups : ℕ) → (footprint : List ℕ) → ℕ
+group_of groups footprint = fold (λ group byte. (group * 31 + byte) % groups) 0 footprint
+
+-- the cell's footprint is of the group
+abbrev pub is_in_group : (groups group : ℕ) → CellLists → Bool
+is_in_group groups group c = group_of groups c.footprint == group
+
+-- how many of the cells have a footprint of the group
+abbrev pub group_count : (groups group : ℕ) → List CellLists → ℕ
+group_count groups group cells = length (filter (is_in_group groups group) cells)

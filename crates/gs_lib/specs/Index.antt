@@ -1,7 +1,6 @@
 -- The cells of a library while it is read: what is known of them, and the map by which a name is found. No public clause names this.
 
-use Rattle.std.specs.Prelude.{ℕ, ◌≡◌, List, [], ◌∷◌, map, All, Option, None, Some, Bool}
-use Rattle.std.specs.BTreeMap.{BTreeMap, get}
+use Rattle.std.specs.Prelude.{ℕ, ◌≡◌, List, [], ◌∷◌, map, All, Option, None, Some}
 use Rattle.std.specs.Cmp.Lexicographic.{slice_cmp}
 use Rattle.std.specs.List.{IsDistinct, list_any}
 use Rattle.std.specs.List.Sorted.{IsStrictlySortedBy}
@@ -18,6 +17,7 @@ use Rattle.gs_lib.specs.declared.error.LibErr.{LibErr}
 use Rattle.gs_libcell.specs.Pin.{name_of, pins_in}
 use Rattle.gs_libcell.specs.Template.{Frame}
 use Rattle.gs_libtree.specs.declared.tree.Node.{Node}
+use Rattle.gs_names.specs.Names.{HasBuckets, find}
 use Rattle.gs_text.specs.Pieces.{IsUnbroken}
 
 -- a draft is what a cell of the profile says
@@ -28,7 +28,8 @@ pub record IsOfCell (lib : Frame) (cell : Node) (d : Draft) : Type 0 where
 
 -- the names differ, none is broken, and the map has just these
 pub record IsKept (b : Builder) : Type 0 where
-  pub finds : (q : List ℕ) → is_some (get (slice_cmp nat_cmp) b.names q) ≡ list_any (bytes_eq q) (map cell_name b.cells.items)
+  pub buckets : HasBuckets b.names
+  pub finds : (q : List ℕ) → is_some (find b.names q) ≡ list_any (bytes_eq q) (map cell_name b.cells.items)
   pub differ : IsDistinct bytes_eq (map cell_name b.cells.items)
   pub named : All (λ c. IsUnbroken c.name) b.cells.items
 

@@ -1,11 +1,8 @@
 //! The cells of a library while it is read, with their names.
 
-ghost use Rattle.std.specs.Prelude.{◌≡◌, ◌++◌, ◌∷◌, [], false, None, Some, IfOk, IfErr, codes, map};
-ghost use Rattle.std.specs.BTreeMap.{get};
-ghost use Rattle.std.specs.Cmp.Lexicographic.{slice_cmp};
+ghost use Rattle.std.specs.Prelude.{◌≡◌, ◌<◌, ◌++◌, ◌∷◌, [], false, None, Some, IfOk, IfErr, codes, map};
 ghost use Rattle.std.specs.List.{list_any};
 ghost use Rattle.std.specs.Option.{option_map};
-ghost use Rattle.std.specs.Ordering.{nat_cmp};
 ghost use Rattle.std.specs.Str.{bytes_eq};
 ghost use Rattle.gs_design.specs.Cells.{cell_name};
 ghost use Rattle.gs_libcell.specs.Attribute.{group_in};
@@ -25,15 +22,15 @@ use crate::profile::{inputs_in_order, kind_of};
 use gs_design::Cell;
 use gs_libcell::{Context, NamedPin, group_in, pins_in};
 use gs_libtree::{Item, Node};
+use gs_names::NameMap;
 use gs_text::Name;
 use std::alloc::Global;
-use std::collections::BTreeMap;
 
 /// The cells so far, and their names.
 #[derive(Drop)]
 pub struct Builder {
     pub cells: Vec<Cell>,
-    pub names: BTreeMap<Name, u8>,
+    pub names: NameMap<()>,
 }
 
 /// Why a cell isn't read whose name is new.
@@ -100,23 +97,26 @@ fn cell_from(alloc: Global, lib: &Context, cell: &Node, draft: Draft) -> Result<
 }
 
 impl Builder {
-    /// No cells. It takes no memory.
-    pub fn new(alloc: Global) -> Builder
-        ensures cells { result.cells.items ≡ [] }
-        ensures kept { IsKept result }
+    /// No cells. Their names will be found in `buckets` buckets.
+    pub fn new(alloc: Global, buckets: usize) -> Result<Builder, LibErr>
+        requires { 0 < buckets }
+        ensures cells { IfOk result (λ b. b.cells.items ≡ []) }
+        ensures kept { IfOk result (λ b. IsKept b) }
+        ensures err { IfErr result (λ e. e ≡ LibErr.Mem) }
     {
-        Builder {
+        let names = NameMap::new(alloc, buckets)?;
+        Ok(Builder {
             cells: Vec::new(alloc),
-            names: BTreeMap::new(alloc),
-        }
+            names,
+        })
     }
 
     /// Whether a cell has the name.
-    fn has(&self, name: &Name) -> bool
+    fn has(&self, name: Name) -> bool
         requires { IsKept self.now }
-        ensures { result ≡ list_any (bytes_eq name.now) (map cell_name self.now.cells.items) }
+        ensures { result ≡ list_any (bytes_eq name) (map cell_name self.now.cells.items) }
     {
-        self.names.contains_key(name)
+        self.names.get(name).is_some()
     }
 
     /// Puts a cell of a new name last.
@@ -129,7 +129,7 @@ impl Builder {
         ensures kept { IfOk result (λ _. IsKept self.new) }
         ensures err { IfErr result (λ e. e ≡ LibErr.Mem) }
     {
-        self.names.insert(name, 0)?;
+        self.names.insert(name, ())?;
         self.cells.push(cell)?;
         Ok(())
     }
@@ -150,7 +150,7 @@ impl Builder {
         ensures kept { IfOk result (λ _. IsKept self.new) }
     {
         let name = Name::copy_of(alloc, draft.name.as_bytes())?;
-        if self.has(&name) {
+        if self.has(Name::copy_of(alloc, draft.name.as_bytes())?) {
             return Err(LibErr::TwoCells { name });
         }
         if let Err(error) = part_fault(alloc, &draft) {

@@ -106,7 +106,8 @@ fn input_pins(
     ensures ok { IfOk result (λ v. v.items ≡ input_pins flop (map timing_lists timings.now) 0 inputs.now) }
     ensures err { IfErr result (λ e. e ≡ LibErr.Mem) }
 {
-    let mut pins = Vec::new(alloc);
+    // the output comes behind them
+    let mut pins = Vec::with_capacity(alloc, inputs.len() + 1)?;
     for (place, input) in inputs.iter().enumerate() {
         let pin = input_pin(alloc, role_of(flop, timings, place, input), input)?;
         pins.push(pin)?;
@@ -220,7 +221,8 @@ fn arcs_of(alloc: Global, timings: &[Timing]) -> Result<Arcs, LibErr>
     ensures ok { IfOk result (λ a. map arc_lists a ≡ flat_map arcs_of (map timing_lists timings.now)) }
     ensures err { IfErr result (λ e. e ≡ LibErr.Mem) }
 {
-    let mut arcs = Vec::new(alloc);
+    // most groups name one input
+    let mut arcs = Vec::with_capacity(alloc, timings.len())?;
     for timing in timings {
         push_arcs(alloc, timing, &mut arcs)?;
     }

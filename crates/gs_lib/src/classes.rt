@@ -1,10 +1,10 @@
 //! Classes of cells that may take each other's place.
 
-ghost use Rattle.std.specs.Prelude.{ℕ, ◌≡◌, ◌≤◌, ◌+◌, ◌++◌, ◌∷◌, [], false, cond, nat_lt, None, Some, IfOk, IfErr, length, map, unwrap_or};
+ghost use Rattle.std.specs.Prelude.{ℕ, ◌≡◌, ◌<◌, ◌≤◌, ◌+◌, ◌^◌, ◌++◌, ◌∷◌, [], false, cond, nat_lt, None, Some, IfOk, IfErr, length, map, set, slice_index_or, unwrap_or};
 ghost use Rattle.std.specs.BTreeMap.{get, is_at};
 ghost use Rattle.std.specs.List.{flat_map};
 ghost use Rattle.gs_design.specs.Cell.{pin_name};
-ghost use Rattle.gs_lib.specs.Classes.{Key, class_key, coded, has_key, key_cmp};
+ghost use Rattle.gs_lib.specs.Classes.{Key, class_key, coded, group_of, has_key, key_cmp};
 ghost use Rattle.gs_lib.specs.Draft.{cell_lists};
 ghost use Rattle.gs_lib.specs.Library.{has_large_class};
 ghost use Rattle.gs_lib.specs.declared.error.LibErr.{LibErr};
@@ -17,6 +17,9 @@ use std::collections::BTreeMap;
 
 /// How many cells may take each other's place.
 const MOST: u32 = 1024;
+
+/// How many groups footprints are counted in.
+const GROUPS: usize = 4096;
 
 /// Puts a name last as bytes from which its end can be told.
 fn push_coded(name: &[u8], code: &mut Vec<u8>) -> Result<(), LibErr>
@@ -108,8 +111,8 @@ fn count_cell(
     }
 }
 
-/// Whether more cells than 1,024 may take each other's place.
-pub fn has_large_class(alloc: Global, cells: &[Cell]) -> Result<bool, LibErr>
+/// The same as `has_large_class`, by the keys of all cells.
+fn has_large_key(alloc: Global, cells: &[Cell]) -> Result<bool, LibErr>
     ensures ok { IfOk result (λ b. b ≡ has_large_class (map cell_lists cells.now)) }
     ensures err { IfErr result (λ e. e ≡ LibErr.Mem) }
 {
@@ -119,6 +122,74 @@ pub fn has_large_class(alloc: Global, cells: &[Cell]) -> Result<bool, LibErr>
         if count > MOST {
             return Ok(true);
         }
+    }
+    Ok(false)
+}
+
+/// The group of a footprint, of so many groups.
+fn group_of(groups: usize, footprint: &[u8]) -> usize
+    requires some { 0 < groups }
+    requires few { groups ≤ 2 ^ 32 }
+    ensures value { result ≡ group_of groups footprint.now }
+    ensures below { result < groups }
+{
+    let mut group = 0;
+    for byte in footprint {
+        group = (group * 31 + usize::from(*byte)) % groups;
+    }
+    group
+}
+
+/// Zeros, one for each group.
+fn zeros(alloc: Global, groups: usize) -> Result<Vec<u32>, LibErr>
+    ensures length { IfOk result (λ v. length v.items ≡ groups) }
+    ensures zeros { IfOk result (λ v. (h : ℕ) → slice_index_or v.items h 0 ≡ 0) }
+    ensures err { IfErr result (λ e. e ≡ LibErr.Mem) }
+{
+    let counts = vec![in alloc; 0u32; groups]?;
+    Ok(counts)
+}
+
+/// Counts a footprint, and answers how many of its group there are.
+fn count_group(counts: &mut Vec<u32>, footprint: &[u8]) -> u32
+    requires some { 0 < length counts.old.items }
+    requires few { length counts.old.items ≤ 2 ^ 32 }
+    requires small { (h : ℕ) → slice_index_or counts.old.items h 0 ≤ 1024 }
+    ensures counts { counts.new.items ≡ set counts.old.items (group_of (length counts.old.items) footprint.now) result }
+    ensures count { result ≡ slice_index_or counts.old.items (group_of (length counts.old.items) footprint.now) 0 + 1 }
+{
+    let group = group_of(counts.len(), footprint);
+    let count = counts[group] + 1;
+    counts[group] = count;
+    count
+}
+
+/// Whether a group of footprints has more cells than 1,024. Cells that may take each other's place have one footprint, so where none
+/// has, no more than 1,024 may.
+fn has_large_group(alloc: Global, groups: usize, cells: &[Cell]) -> Result<bool, LibErr>
+    requires some { 0 < groups }
+    requires few { groups ≤ 2 ^ 32 }
+    ensures ok { IfOk result (λ b. b ≡ false → has_large_class (map cell_lists cells.now) ≡ false) }
+    ensures err { IfErr result (λ e. e ≡ LibErr.Mem) }
+{
+    let mut counts = zeros(alloc, groups)?;
+    for cell in cells {
+        let count = count_group(&mut counts, cell.footprint.as_bytes());
+        if count > MOST {
+            return Ok(true);
+        }
+    }
+    Ok(false)
+}
+
+/// Whether more cells than 1,024 may take each other's place. Keys are made only where many cells have one footprint.
+pub fn has_large_class(alloc: Global, cells: &[Cell]) -> Result<bool, LibErr>
+    ensures ok { IfOk result (λ b. b ≡ has_large_class (map cell_lists cells.now)) }
+    ensures err { IfErr result (λ e. e ≡ LibErr.Mem) }
+{
+    let may_be = has_large_group(alloc, GROUPS, cells)?;
+    if may_be {
+        return has_large_key(alloc, cells);
     }
     Ok(false)
 }

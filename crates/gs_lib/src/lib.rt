@@ -9,12 +9,12 @@
 //! - `specs/Profile.antt`: which cells are read, and as what. Each of the seven reasons why a cell is passed over is a definition.
 //! - `specs/Draft.antt`: what a cell says, which of it is missing or bad, and the cell that it makes.
 //! - `specs/Library.antt`: units, the refusals in their order (`first_fault`), and the library of a tree.
-//! - `specs/Index.antt`, `specs/Classes.antt`: the maps by which names, and cells that may take each other's place, are found. No public
-//!   clause names them.
+//! - `specs/Index.antt`, `specs/Inputs.antt`, `specs/Classes.antt`: how names, a cell's inputs in order, and cells that may take each
+//!   other's place are found. No public clause names them.
 //!
 //! Each attribute of the library is a pass over the root's items, and the cells are one more; a cell costs some passes over its own
-//! items, a look into an ordered map of names, and one into a map of classes. Each table is parsed once and copied for each input that
-//! its group names.
+//! items, two looks into a map of names, and one count by its footprint. Classes are counted in an ordered map only where more than
+//! 1,024 cells have footprints of one group. Each table is parsed once and copied for each input that its group names.
 //!
 //! A further refusal of a cell is a line of `part_fault`; a further attribute is a field of `Draft`, read in `src/draft.rt` and judged in
 //! `src/fault.rt`; attributes of pins and tables stand in the crate below.

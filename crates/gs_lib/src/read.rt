@@ -22,13 +22,16 @@ use std::alloc::Global;
 /// How many cells a library may have.
 const MOST: usize = 65_535;
 
+/// How many names of cells stand in a bucket, about.
+const NAMES_TO_A_BUCKET: usize = 8;
+
 /// The cells of the items of a library.
 fn read_cells(alloc: Global, lib: &Context, items: &[Item]) -> Result<Builder, LibErr>
     ensures fault { Checks (drafts_fault [] (drafts_in lib.now items.now)) result }
     ensures cells { IfOk result (λ b. map cell_lists b.cells.items ≡ map cell_of (drafts_in lib.now items.now)) }
     ensures kept { IfOk result (λ b. IsKept b) }
 {
-    let mut builder = Builder::new(alloc);
+    let mut builder = Builder::new(alloc, items.len() / NAMES_TO_A_BUCKET + 1)?;
     for item in items {
         match builder.take_item(alloc, lib, item) {
             Ok(()) => {}

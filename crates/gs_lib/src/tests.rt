@@ -211,7 +211,7 @@ fn cells_are_judged_in_order(rt: HostRuntime) -> Result<(), Fail> {
     let alloc = rt.alloc();
     let pins =
         b"pin (a) { direction : input; capacitance : 1; } pin (o) { direction : output; function : \"!a\"; } } ".as_slice();
-    let cases: [(&[u8], Outcome); 13] = [
+    let cases: [(&[u8], Outcome); 14] = [
         (b"cell (I1) { cell_leakage_power : 1; ", Outcome::Read(1)),
         (
             b"cell (I1) { cell_leakage_power (1); area : x; ",
@@ -240,6 +240,10 @@ fn cells_are_judged_in_order(rt: HostRuntime) -> Result<(), Fail> {
         ),
         (
             b"cell (I1) { pin (b, c, d, e, f, g) { direction : input; } ",
+            Outcome::Read(0),
+        ),
+        (
+            b"cell (I1) { pin (s, r, q, p, n, m, l, k, j, i, h, g, f, e, d, c, b) { direction : input; } ",
             Outcome::Read(0),
         ),
         (

@@ -1,4 +1,4 @@
-use Rattle.std.proofs.Common.{◌≡◌, ◌∙◌, ◌++◌, [], ap, sym, map}
+use Rattle.std.proofs.Common.{◌∙◌, ◌++◌, [], ap, sym, map}
 use Rattle.gs_design.specs.Cells.{cell_name}
 use Rattle.gs_lib.specs.Draft.{cell_lists, cell_of}
 use Rattle.gs_lib.specs.Library.{drafts_fault, drafts_in}
@@ -25,9 +25,9 @@ loop-item-preserved c =
 pub loop-item-init : goal.loop-item-init
 loop-item-init c =
     record {
-      fault = ap (λ cs. drafts_fault (map cell_name cs) (drafts_in c.args.lib.now c.args.items.now)) c.new-builder.ensures.cells;
-      cells = ap (λ cs. map cell_lists cs ++ map cell_of (drafts_in c.args.lib.now c.args.items.now)) c.new-builder.ensures.cells;
-      kept = c.new-builder.ensures.kept;
+      fault = ap (λ cs. drafts_fault (map cell_name cs) (drafts_in c.args.lib.now c.args.items.now)) c.in_ok-builder.ensures.cells;
+      cells = ap (λ cs. map cell_lists cs ++ map cell_of (drafts_in c.args.lib.now c.args.items.now)) c.in_ok-builder.ensures.cells;
+      kept = c.in_ok-builder.ensures.kept;
     }
 
 pub returns-clause-fault : goal.returns-clause-fault

@@ -3,7 +3,7 @@ use Rattle.std.specs.BTreeMap.{get}
 use Rattle.std.specs.Option.{unwrap_or}
 use Rattle.gs_lib.specs.Classes.{Key, key_cmp, key_count}
 use Rattle.gs_lib.specs.Draft.{cell_lists}
-use Rattle.gs_lib.proofs.classes.has_large_class.Given as goal
+use Rattle.gs_lib.proofs.classes.has_large_key.Given as goal
 
 abbrev pub invariant-loop-cell : goal.invariant-loop-cell
 invariant-loop-cell l = record {

@@ -1,12 +1,11 @@
-use Rattle.std.proofs.Common.{◌≡◌, ◌∙◌, ◌+◌, ◌<◌, ◌≤◌, ap, sym, subst, arith, get_or, map, take, length, cond, Some, None}
+use Rattle.std.proofs.Common.{◌≡◌, ◌∙◌, ◌+◌, ◌<◌, ◌≤◌, ap, sym, subst, arith, get_or, map, take, length, cond}
 use Rattle.std.specs.BTreeMap.{get}
 use Rattle.std.specs.Option.{unwrap_or}
 use Rattle.std.proofs.lemmas.List.{take_all}
-use Rattle.gs_design.specs.declared.cell.Cell.{Cell}
 use Rattle.gs_lib.specs.Classes.{Key, class_key, has_key, key_cmp, key_count}
-use Rattle.gs_lib.specs.Draft.{CellLists, cell_lists}
+use Rattle.gs_lib.specs.Draft.{cell_lists}
 use Rattle.gs_lib.proofs.ClassCounts.{count_more, is_large, no_large, small_more}
-use Rattle.gs_lib.proofs.classes.has_large_class.Goals as goal
+use Rattle.gs_lib.proofs.classes.has_large_key.Goals as goal
 
 pub returns-then-count-gt-MOST-clause-ok : goal.returns-then-count-gt-MOST-clause-ok
 returns-then-count-gt-MOST-clause-ok c =
