@@ -313,7 +313,8 @@ fn templates_have_a_slew_and_a_load_in_either_order(rt: HostRuntime) -> Result<(
 #[test]
 fn templates_are_judged(rt: HostRuntime) -> Result<(), Fail> {
     let alloc = rt.alloc();
-    let cases: [&[u8]; 6] = [
+    let cases: [&[u8]; 7] = [
+        b"variable_1 : input_net_transition;",
         b"variable_1 : input_net_transition; variable_2 : input_transition_time; index_1 (\"0, 10\"); index_2 (\"0, 20\");",
         b"variable_2 : input_net_transition; index_1 (\"0, 10\"); index_2 (\"0, 20\");",
         b"variable_1 : input_net_transition; variable_2 : total_output_net_capacitance; index_1 (\"0, 10\");",

@@ -82,7 +82,7 @@ fn of_timing(alloc: Global, timing: &[u8]) -> Result<Outcome, Fail> {
 #[test]
 fn units_and_their_neighbours(rt: HostRuntime) -> Result<(), Fail> {
     let alloc = rt.alloc();
-    let cases: [(&[u8], &[u8], Outcome); 9] = [
+    let cases: [(&[u8], &[u8], Outcome); 16] = [
         (b"1ps", b"1, ff", Outcome::Read(0)),
         (b"10ps", b"10, FF", Outcome::Read(0)),
         (b"100ps", b"100.0, pF", Outcome::Read(0)),
@@ -92,6 +92,13 @@ fn units_and_their_neighbours(rt: HostRuntime) -> Result<(), Fail> {
         (b"1ps", b"2, ff", Outcome::BadUnit),
         (b"1ps", b"1, nf", Outcome::BadUnit),
         (b"1ps", b"1", Outcome::BadUnit),
+        (b"10ns", b"1, ff", Outcome::BadUnit),
+        (b"1us", b"1, ff", Outcome::BadUnit),
+        (b"1PS", b"1, ff", Outcome::BadUnit),
+        (b"ps", b"1, ff", Outcome::BadUnit),
+        (b"1ps", b"1000, ff", Outcome::BadUnit),
+        (b"1ps", b"1, f", Outcome::BadUnit),
+        (b"1ps", b"1, ff, 1", Outcome::BadUnit),
     ];
     for (time, load, wanted) in cases {
         let text = joined(
@@ -113,9 +120,21 @@ fn units_and_their_neighbours(rt: HostRuntime) -> Result<(), Fail> {
 #[test]
 fn headers_are_refused(rt: HostRuntime) -> Result<(), Fail> {
     let alloc = rt.alloc();
-    let cases: [(&[u8], Outcome); 4] = [
+    let cases: [(&[u8], Outcome); 7] = [
         (b"lib (l) { }", Outcome::Missing(What::Library)),
         (b"library (l) { time_unit : \"2ps\"; }", Outcome::NoUnit),
+        (
+            b"library (l) { capacitive_load_unit (1, ff); }",
+            Outcome::NoUnit,
+        ),
+        (
+            b"library (l) { time_unit : \"1ps\"; capacitive_load_unit (1, ff); leakage_power_unit : \"0123456789abcdef\"; }",
+            Outcome::Read(0),
+        ),
+        (
+            b"library (l) { time_unit : \"1ps\"; capacitive_load_unit (1, ff); leakage_power_unit : \"0123456789abcdefg\"; }",
+            Outcome::BadUnit,
+        ),
         (
             b"library (l) { time_unit : \"1ps\"; capacitive_load_unit (1, ff); leakage_power_unit : \"1 W\"; default_max_transition : x; }",
             Outcome::BadUnit,
@@ -137,7 +156,7 @@ fn tables_are_judged(rt: HostRuntime) -> Result<(), Fail> {
     let alloc = rt.alloc();
     let rest =
         b"cell_fall (t) { values (\"4, 24\"); } rise_transition (t) { values (\"2, 12\"); } fall_transition (t) { values (\"2, 12\"); }".as_slice();
-    let cases: [(&[u8], Outcome); 13] = [
+    let cases: [(&[u8], Outcome); 16] = [
         (b"cell_rise (t) { values (\"-4, 24\"); }", Outcome::Read(1)),
         (
             b"cell_rise (t) { values (\"4, \\\n 24\"); }",
@@ -155,6 +174,18 @@ fn tables_are_judged(rt: HostRuntime) -> Result<(), Fail> {
         (
             b"cell_rise (x) { values (\"4\"); } cell_rise (t) { values (\"4, 24\"); }",
             Outcome::Read(1),
+        ),
+        (
+            b"cell_rise (u) { values (\"1\", \"5, 3, 11\"); }",
+            Outcome::Read(1),
+        ),
+        (
+            b"cell_rise (u) { values (\"1, 5\", \"3\"); }",
+            Outcome::BadTable(0),
+        ),
+        (
+            b"cell_rise (u) { values (\"1, 5\", \"3, 11, 2\"); }",
+            Outcome::BadTable(0),
         ),
         (b"cell_rise (t) { values (\"4\"); }", Outcome::BadTable(0)),
         (
@@ -202,6 +233,28 @@ fn groups_are_judged(rt: HostRuntime) -> Result<(), Fail> {
     for (start, wanted) in cases {
         let timing = joined(alloc, &[start, TABLES])?;
         assert!(rt; of_timing(alloc, timing.as_slice())? == wanted);
+    }
+    Ok(())
+}
+
+#[test]
+fn a_flip_flop_without_a_rising_edge_is_passed_over(rt: HostRuntime) -> Result<(), Fail> {
+    let alloc = rt.alloc();
+    let cases: [(&[u8], Outcome); 3] = [
+        (b"timing_type : rising_edge; ", Outcome::Read(1)),
+        (b"timing_type : falling_edge; ", Outcome::Read(0)),
+        (b"", Outcome::Read(0)),
+    ];
+    for (edge, wanted) in cases {
+        let parts: [&[u8]; 6] = [
+            b"cell (I1) { ff () { } ",
+            PINS,
+            b"timing () { related_pin : \"a\"; ",
+            edge,
+            TABLES,
+            b" } } }",
+        ];
+        assert!(rt; outcome_with(alloc, &parts)? == wanted);
     }
     Ok(())
 }
