@@ -264,8 +264,20 @@ fn cells_are_judged_in_order(rt: HostRuntime) -> Result<(), Fail> {
     let alloc = rt.alloc();
     let pins =
         b"pin (a) { direction : input; capacitance : 1; } pin (o) { direction : output; function : \"!a\"; } } ".as_slice();
-    let cases: [(&[u8], Outcome); 14] = [
+    let cases: [(&[u8], Outcome); 17] = [
         (b"cell (I1) { cell_leakage_power : 1; ", Outcome::Read(1)),
+        (
+            b"cell (I1) { cell_leakage_power : x; cell_leakage_power : 1; ",
+            Outcome::Read(1),
+        ),
+        (
+            b"cell (I1) { cell_leakage_power : 1; pin () { direction : output; } ",
+            Outcome::Read(1),
+        ),
+        (
+            b"lu_table_template () { } cell (I1) { cell_leakage_power : 1; ",
+            Outcome::Read(1),
+        ),
         (
             b"cell (I1) { cell_leakage_power (1); area : x; ",
             Outcome::Missing(What::Leakage),
