@@ -228,10 +228,20 @@ fn truth_of(alloc: Global, inputs: &[u8], function: &[u8]) -> Result<Option<u64>
     }
 }
 
+/// A function in 64 parentheses.
+const DEEP: &[u8] =
+    b"((((((((((((((((((((((((((((((((((((((((((((((((((((((((((((((((a))))))))))))))))))))))))))))))))))))))))))))))))))))))))))))))))";
+
+/// A function in 65 parentheses.
+const TOO_DEEP: &[u8] =
+    b"(((((((((((((((((((((((((((((((((((((((((((((((((((((((((((((((((a)))))))))))))))))))))))))))))))))))))))))))))))))))))))))))))))))";
+
 #[test]
 fn functions_are_over_the_inputs_in_order(rt: HostRuntime) -> Result<(), Fail> {
     let alloc = rt.alloc();
-    let cases: [(&[u8], &[u8], Option<u64>); 9] = [
+    let cases: [(&[u8], &[u8], Option<u64>); 11] = [
+        (b"a", DEEP, Some(2)),
+        (b"a", TOO_DEEP, None),
         (b"a, b", b"!(a*b)", Some(7)),
         (b"a, b", b"a ^ b", Some(6)),
         (b"a, b, c", b"a b ^ c", Some(40)),
@@ -313,8 +323,12 @@ fn templates_have_a_slew_and_a_load_in_either_order(rt: HostRuntime) -> Result<(
 #[test]
 fn templates_are_judged(rt: HostRuntime) -> Result<(), Fail> {
     let alloc = rt.alloc();
-    let cases: [&[u8]; 7] = [
+    let cases: [&[u8]; 11] = [
         b"variable_1 : input_net_transition;",
+        b"variable_1 : input_net_transition; index_1 (\"0, 1, 2, x\");",
+        b"variable_1 : total_output_net_capacitance; variable_2 : total_output_net_capacitance; index_1 (\"0, 10\"); index_2 (\"0, 20\");",
+        b"variable_1 : total_output_net_capacitance; variable_2 : input_voltage; index_1 (\"0, 10\"); index_2 (\"0, 20\");",
+        b"variable_1 : input_voltage; variable_2 : input_net_transition; index_1 (\"0, 10\"); index_2 (\"0, 20\");",
         b"variable_1 : input_net_transition; variable_2 : input_transition_time; index_1 (\"0, 10\"); index_2 (\"0, 20\");",
         b"variable_2 : input_net_transition; index_1 (\"0, 10\"); index_2 (\"0, 20\");",
         b"variable_1 : input_net_transition; variable_2 : total_output_net_capacitance; index_1 (\"0, 10\");",

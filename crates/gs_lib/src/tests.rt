@@ -156,7 +156,7 @@ fn tables_are_judged(rt: HostRuntime) -> Result<(), Fail> {
     let alloc = rt.alloc();
     let rest =
         b"cell_fall (t) { values (\"4, 24\"); } rise_transition (t) { values (\"2, 12\"); } fall_transition (t) { values (\"2, 12\"); }".as_slice();
-    let cases: [(&[u8], Outcome); 16] = [
+    let cases: [(&[u8], Outcome); 17] = [
         (b"cell_rise (t) { values (\"-4, 24\"); }", Outcome::Read(1)),
         (
             b"cell_rise (t) { values (\"4, \\\n 24\"); }",
@@ -194,6 +194,10 @@ fn tables_are_judged(rt: HostRuntime) -> Result<(), Fail> {
         ),
         (
             b"cell_rise (t) { index_1 (\"10, 0\"); values (\"4, 24\"); }",
+            Outcome::BadTable(0),
+        ),
+        (
+            b"cell_rise (t) { index_1 (\"0, x\"); values (\"4, 24\"); }",
             Outcome::BadTable(0),
         ),
         (
