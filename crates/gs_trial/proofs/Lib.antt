@@ -1,0 +1,7 @@
+pub mod Lists
+pub mod LimitLaws
+pub mod FirstLaws
+pub mod OverLaws
+pub mod TimingLaws
+pub mod MoveLaws
+pub mod ChangedLaws

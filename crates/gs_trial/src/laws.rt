@@ -1,0 +1,19 @@
+//! Laws of timing that trials and the crates above reason with. The calls do nothing.
+#![tactic(auto)]
+
+ghost use Rattle.std.specs.Prelude.{◌≡◌, ℕ, List};
+ghost use Rattle.gs_design.specs.Sizes.{FitSizes};
+ghost use Rattle.gs_design.specs.Timing.{IsTiming, timing_of};
+ghost use Rattle.gs_design.specs.declared.time.NetTime.{NetTime};
+
+use gs_design::Design;
+use gs_timing::{one_timing, record_reads};
+
+/// The timing of a design at its sizes is the one that is made net by net in the design's order.
+pub fn timing_is_made(design: &Design)
+    ensures made { (s : List ℕ) → FitSizes design.now s → IsTiming design.now s (timing_of design.now s) }
+    ensures only { (s : List ℕ) (t : List NetTime) → FitSizes design.now s → IsTiming design.now s t → t ≡ timing_of design.now s }
+{
+    record_reads(design);
+    one_timing(design);
+}
