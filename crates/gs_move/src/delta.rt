@@ -4,7 +4,7 @@
 ghost use Rattle.std.specs.Prelude.{◌≡◌, ◌<◌, IfOk, length, slice_set};
 ghost use Rattle.gs_move.specs.Delta.{AreInstalled, AreRecordsFor};
 
-use gs_design::{InstId, NetTimes, Sizes, Timing};
+use gs_design::{InstId, NetAt, NetTimes, Sizes, Timing};
 use gs_list::Rows;
 use gs_quantity::Mem;
 use std::alloc::Global;
@@ -38,13 +38,22 @@ impl Delta {
     }
 }
 
+// Puts the record of one net into a timing.
+#[inline]
+fn put_record(timing: &mut Timing, named: &NetAt)
+    requires { named.now.net < length timing.old }
+    ensures { timing.new ≡ slice_set timing.old named.now.net named.now.time }
+{
+    timing.set(named.net, named.time);
+}
+
 // Puts the records of the named nets into a timing.
 fn put_records(timing: &mut Timing, delta: &Delta)
     requires { AreRecordsFor (length timing.old) delta.now.nets }
     ensures { AreInstalled delta.now.nets timing.old timing.new }
 {
-    for record in delta.nets.as_slice() {
-        timing.set(record.net, record.time);
+    for named in delta.nets.as_slice() {
+        put_record(timing, named);
     }
 }
 

@@ -45,7 +45,10 @@ pub use delta::{Delta, install};
 pub use ended::Ended;
 pub use entry::{Entries, Entry};
 pub use judge::Judge;
-pub use laws::{delta_is_exact, recovery_finds_fair};
+pub use laws::{
+    delta_is_exact, legal_is_run, minimum_is_none_fair, moves_fit, recovery_finds_fair,
+    recovery_goes_on, settling_is_legal,
+};
 pub use moves::Move;
 pub use outcome::{Outcome, Why};
 pub use recovery::Recovery;

@@ -3,5 +3,4 @@ pub mod LimitLaws
 pub mod FirstLaws
 pub mod OverLaws
 pub mod TimingLaws
-pub mod MoveLaws
 pub mod ChangedLaws

@@ -12,7 +12,7 @@ use crate::changed::changed_records;
 use crate::laws::timing_is_made;
 use gs_design::{Design, NetTimes, Sizes, Timing};
 use gs_list::Rows;
-use gs_move::{Delta, Judge, Move, Outcome, Trial};
+use gs_move::{Delta, Judge, Move, Outcome, Trial, moves_fit};
 use gs_quantity::{Mem, Steps};
 use gs_timing::time_all;
 use std::alloc::Global;
@@ -45,6 +45,7 @@ fn timing_after(alloc: Global, design: &Design, sizes: &Sizes, mv: &Move) -> Res
     ensures fit { IfOk result (λ t. FitTiming design.now t) }
 {
     timing_is_made(design);
+    moves_fit(design);
     let mut changed = sizes.copy(alloc)?;
     changed.set(mv.inst, mv.place);
     time_all(alloc, design, &changed)

@@ -2,5 +2,5 @@ use Rattle.std.proofs.Common.{take}
 use Rattle.gs_move.specs.Delta.{AreInstalled}
 use Rattle.gs_move.proofs.delta.put_records.Given as goal
 
-abbrev pub invariant-loop-record : goal.invariant-loop-record
-invariant-loop-record l = AreInstalled (take l.record-index l.record-items) l.initial.timing l.timing
+abbrev pub invariant-loop-named : goal.invariant-loop-named
+invariant-loop-named l = AreInstalled (take l.named-index l.named-items) l.initial.timing l.timing

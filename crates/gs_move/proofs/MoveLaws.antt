@@ -8,6 +8,7 @@ use Rattle.std.proofs.lemmas.List.{get_or-set_other, get_or-set_same, length-set
 use Rattle.gs_design.specs.Insts.{inst_at}
 use Rattle.gs_design.specs.Sizes.{FitSizes}
 use Rattle.gs_design.specs.declared.design.Design.{Design}
+use Rattle.gs_move.specs.Entries.{IsMoveOf}
 use Rattle.gs_move.specs.Moves.{after, is_move}
 use Rattle.gs_move.specs.declared.moves.Move.{Move}
 
@@ -26,10 +27,10 @@ module _ (d : Design) (s : List ℕ) (m : Move) (h : is_move d s m ≡ true) whe
   abbrev other : Bool
   other = not (m.place == slice_index s m.inst)
 
-  pub inst_in : m.inst < length d.insts
+  inst_in : m.inst < length d.insts
   inst_in = (Decides-ltb m.inst (length d.insts)).0 (first_part (nat_lt m.inst (length d.insts)) (place_ok && other) h)
 
-  pub place_in : m.place < length (inst_at d.insts m.inst).alts
+  place_in : m.place < length (inst_at d.insts m.inst).alts
   place_in = (Decides-ltb m.place (length (inst_at d.insts m.inst).alts)).0 (first_part place_ok other (second_part (nat_lt m.inst (length d.insts)) (place_ok && other) h))
 
   place_at : (fit : FitSizes d s) (g : ℕ) → g < length d.insts → (g ≡ m.inst) ⊎ (g ≡ m.inst → ⊥) → slice_index (after s m) g < length (inst_at d.insts g).alts
@@ -37,6 +38,9 @@ module _ (d : Design) (s : List ℕ) (m : Move) (h : is_move d s m ≡ true) whe
       subst (λ k. slice_index (after s m) k < length (inst_at d.insts k).alts) (sym e)
       (subst (λ p. p < length (inst_at d.insts m.inst).alts) (sym (get_or-set_same s m.inst m.place 0 (let many = fit.as_many in omega (arith, inst_in, many)))) place_in)
   place_at fit g lt (inr apart) = subst (λ p. p < length (inst_at d.insts g).alts) (sym (get_or-set_other s m.inst g m.place 0 apart)) (fit.places_in g lt)
+
+  pub place_of_it : IsMoveOf d m
+  place_of_it = record { inst_in = inst_in; place_in = place_in }
 
   pub after_fits : FitSizes d s → FitSizes d (after s m)
   after_fits fit = record {
