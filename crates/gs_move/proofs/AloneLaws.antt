@@ -1,15 +1,15 @@
 -- Recovery without further workers, round by round.
 
-use Rattle.std.proofs.Common.{◌≡◌, ℕ, zero, suc, ◌+◌, ◌-◌, ◌<◌, ◌≤◌, ◌==◌, Bool, true, false, not, ◌&&◌, All, List, [], ◌∷◌, ◌++◌, filter, length, slice_index, refl, sym, ◌∙◌, ap, subst, arith}
+use Rattle.std.proofs.Common.{◌≡◌, ℕ, zero, suc, ◌+◌, ◌-◌, ◌<◌, ◌≤◌, ◌==◌, Bool, true, false, not, ◌&&◌, All, List, [], ◌∷◌, ◌++◌, length, slice_index, refl, sym, ◌∙◌, ap, subst, arith}
 use Rattle.std.specs.Prelude.{if◌then◌else◌, nat_lt}
-use Rattle.std.proofs.lemmas.Bool.{cases_Bool, ne_eqb}
+use Rattle.std.proofs.lemmas.Bool.{ne_eqb}
 use Rattle.std.proofs.lemmas.Bool.Decides.{Decides-eqb, Decides-ltb, nat_tests}
 use Rattle.std.proofs.lemmas.List.{length_push}
-use Rattle.std.proofs.lemmas.List.Elements.{All-filter, All-head, All-nil, All-tail, All-weaker, filter_passes}
+use Rattle.std.proofs.lemmas.List.Elements.{All-filter, All-head, All-tail, All-weaker, filter_passes}
 use Rattle.gs_design.specs.declared.design.Design.{Design}
 use Rattle.gs_move.specs.Alone.{after_move, after_round, after_rounds, alone_from, sweep_of}
 use Rattle.gs_move.specs.Entries.{commits_of}
-use Rattle.gs_move.specs.Judge.{Answers, fair_moves, is_fair_by}
+use Rattle.gs_move.specs.Judge.{Answers, is_fair_by}
 use Rattle.gs_move.specs.Legal.{IsLegal}
 use Rattle.gs_move.specs.Moves.{alt_count, is_move, moves_at}
 use Rattle.gs_move.specs.Settle.{entries_after, known_at, last_moved, settle_of}

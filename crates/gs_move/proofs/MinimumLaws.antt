@@ -1,13 +1,12 @@
 -- All moves are in the list of moves, so sizes are a minimum exactly where no move of the list is Fair.
 
-use Rattle.std.proofs.Common.{◌≡◌, ℕ, zero, suc, ◌<◌, ◌==◌, Bool, true, false, not, ◌&&◌, All, List, [], ◌∷◌, ◌++◌, filter, map, flat_map, length, slice_index, refl, sym, ◌∙◌, subst, arith}
+use Rattle.std.proofs.Common.{◌≡◌, ℕ, ◌==◌, Bool, true, false, not, ◌&&◌, All, List, [], ◌∷◌, filter, flat_map, length, slice_index, refl, sym, subst}
 use Rattle.std.specs.Prelude.{nat_lt}
 use Rattle.std.specs.List.{range_with_len}
 use Rattle.std.proofs.lemmas.Bool.Decides.{Decides-ltb}
 use Rattle.std.proofs.lemmas.List.{nil_from_length}
 use Rattle.std.proofs.lemmas.List.Elements.{All-append, All-cons, All-head, All-map, All-nil, All-tail}
 use Rattle.gs_design.specs.declared.design.Design.{Design}
-use Rattle.gs_move.specs.Fair.{IsFair}
 use Rattle.gs_move.specs.Judge.{Answers, fair_moves, is_fair_by}
 use Rattle.gs_move.specs.Minimum.{IsMinimum, IsMinimumBy}
 use Rattle.gs_move.specs.Moves.{alt_count, is_move, moves_at, moves_of_inst}

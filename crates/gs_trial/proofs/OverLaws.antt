@@ -1,8 +1,7 @@
 -- Sums of excess: what they are net by net, and that they are far below 2 ^ 127.
 
-use Rattle.std.proofs.Common.{◌≡◌, ℕ, zero, suc, ◌+◌, ◌*◌, ◌<◌, ◌≤◌, ◌==◌, Bool, true, false, not, All, List, [], ◌∷◌, ◌++◌, filter, map, length, sum_by, Option, None, Some, ℤ, ◌-ℤ◌, nat_abs, refl, sym, ◌∙◌, ap, subst, arith}
+use Rattle.std.proofs.Common.{◌≡◌, ℕ, ◌+◌, ◌<◌, ◌≤◌, ◌==◌, Bool, true, false, not, List, [], ◌∷◌, filter, map, length, sum_by, Option, None, Some, ℤ, ◌-ℤ◌, nat_abs, refl, sym, ◌∙◌, ap, subst, arith}
 use Rattle.std.specs.Prelude.{if◌then◌else◌, int_lt}
-use Rattle.std.specs.Int.{int_max}
 use Rattle.std.specs.List.{range_with_len}
 use Rattle.std.proofs.lemmas.Int.{ints}
 use Rattle.std.proofs.lemmas.List.{length-append, length-map}
@@ -10,7 +9,7 @@ use Rattle.std.proofs.lemmas.List.Filters.{length-filter_both}
 use Rattle.std.proofs.lemmas.List.FromFn.{length-range_with_len}
 use Rattle.std.proofs.lemmas.List.Sums.{sum_by-le}
 use Rattle.gs_design.specs.Ends.{end_at, ends_at}
-use Rattle.gs_design.specs.Limits.{IsLimitOf, bound_in, excess_over, held_in, is_driven_by_inst, limit_net, limits_at, over_in, over_of}
+use Rattle.gs_design.specs.Limits.{IsLimitOf, excess_over, held_in, is_driven_by_inst, limits_at, over_in, over_of}
 use Rattle.gs_design.specs.Times.{time_at}
 use Rattle.gs_design.specs.declared.design.Design.{Design}
 use Rattle.gs_design.specs.declared.limit.Limit.{Limit}

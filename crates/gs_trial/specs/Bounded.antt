@@ -1,6 +1,6 @@
 -- Quantities of 64 bits, so that no sum over a design goes past 128 bits.
 
-use Rattle.std.specs.Prelude.{ℕ, ◌≡◌, ◌≤◌, Option, Some, ℤ, nat_abs}
+use Rattle.std.specs.Prelude.{◌≡◌, ◌≤◌, Option, Some, ℤ, nat_abs}
 use Rattle.gs_design.specs.declared.time.NetTime.{NetTime}
 
 -- a magnitude of at most 2 ^ 63

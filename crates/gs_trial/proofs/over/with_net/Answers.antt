@@ -1,4 +1,4 @@
-use Rattle.std.proofs.Common.{◌≡◌, ◌+◌, true, sum_by, sym, ◌∙◌, ap}
+use Rattle.std.proofs.Common.{◌+◌, sum_by, sym, ◌∙◌, ap}
 use Rattle.std.specs.Prelude.{if◌then◌else◌}
 use Rattle.gs_design.specs.Limits.{limits_at, over_in}
 use Rattle.gs_limits.specs.declared.outcome.NetOutcome.{NetOutcome}
