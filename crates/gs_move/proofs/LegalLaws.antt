@@ -118,7 +118,7 @@ both : (a b : Bool) → (a && b) ≡ true → (a ≡ true) × (b ≡ true)
 both true b e = (refl, e)
 both false b e = absurd cc
 
-move_is : (a b : Move) → same_move a b ≡ true → a ≡ b
+pub move_is : (a b : Move) → same_move a b ≡ true → a ≡ b
 move_is a b e =
     let parts = both (a.inst == b.inst) (a.place == b.place) e in
     λ i. record { inst = (Decides-eqb a.inst b.inst).0 parts.0 i; place = (Decides-eqb a.place b.place).0 parts.1 i }

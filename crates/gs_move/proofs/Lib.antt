@@ -6,3 +6,4 @@ pub mod RunLaws
 pub mod MinimumLaws
 pub mod LegalLaws
 pub mod AloneLaws
+pub mod FewLaws

@@ -27,10 +27,10 @@ module _ (d : Design) (s : List ℕ) (m : Move) (h : is_move d s m ≡ true) whe
   abbrev other : Bool
   other = not (m.place == slice_index s m.inst)
 
-  inst_in : m.inst < length d.insts
+  pub inst_in : m.inst < length d.insts
   inst_in = (Decides-ltb m.inst (length d.insts)).0 (first_part (nat_lt m.inst (length d.insts)) (place_ok && other) h)
 
-  place_in : m.place < length (inst_at d.insts m.inst).alts
+  pub place_in : m.place < length (inst_at d.insts m.inst).alts
   place_in = (Decides-ltb m.place (length (inst_at d.insts m.inst).alts)).0 (first_part place_ok other (second_part (nat_lt m.inst (length d.insts)) (place_ok && other) h))
 
   place_at : (fit : FitSizes d s) (g : ℕ) → g < length d.insts → (g ≡ m.inst) ⊎ (g ≡ m.inst → ⊥) → slice_index (after s m) g < length (inst_at d.insts g).alts

@@ -1,8 +1,8 @@
 //! Laws of moves that the crates above reason with. The calls do nothing.
 #![tactic(auto)]
 
-ghost use Rattle.std.specs.Prelude.{◌≡◌, ◌<◌, ◌↔◌, ℕ, List, length, true};
-ghost use Rattle.gs_design.specs.Sizes.{FitSizes};
+ghost use Rattle.std.specs.Prelude.{◌≡◌, ◌<◌, ◌≤◌, ◌+◌, ◌*◌, ◌↔◌, ℕ, List, length, true};
+ghost use Rattle.gs_design.specs.Sizes.{FitSizes, move_count};
 ghost use Rattle.gs_design.specs.Timing.{FitTiming, timing_of};
 ghost use Rattle.gs_design.specs.declared.time.NetTime.{NetTime};
 ghost use Rattle.gs_move.specs.Alone.{after_round, alone_from, sweep_of};
@@ -60,6 +60,15 @@ pub fn minimum_is_none_fair(design: &Design)
 /// The commits of entries that are legal under leakage recovery are a run.
 pub fn legal_is_run(design: &Design)
     ensures { (start : List ℕ) (budget : ℕ) (es : List Entry) → IsLegal recovery design.now start budget es → IsRun design.now start (commits_of es) }
+{
+    let _ = design;
+}
+
+/// Entries that are legal under leakage recovery have at most as many commits as there are moves away from any sizes, and at most that
+/// number times the number plus two entries.
+pub fn legal_is_few(design: &Design)
+    ensures commits { (start : List ℕ) (budget : ℕ) (es : List Entry) → FitSizes design.now start → IsLegal recovery design.now start budget es → length (commits_of es) ≤ move_count design.now }
+    ensures entries { (start : List ℕ) (budget : ℕ) (es : List Entry) → FitSizes design.now start → IsLegal recovery design.now start budget es → length es ≤ move_count design.now * (move_count design.now + 2) }
 {
     let _ = design;
 }

@@ -46,8 +46,8 @@ pub use ended::Ended;
 pub use entry::{Entries, Entry};
 pub use judge::Judge;
 pub use laws::{
-    delta_is_exact, legal_is_run, minimum_is_none_fair, moves_fit, recovery_finds_fair,
-    recovery_goes_on, settling_is_legal,
+    delta_is_exact, legal_is_few, legal_is_run, minimum_is_none_fair, moves_fit,
+    recovery_finds_fair, recovery_goes_on, settling_is_legal,
 };
 pub use moves::Move;
 pub use outcome::{Outcome, Why};
