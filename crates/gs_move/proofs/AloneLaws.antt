@@ -127,7 +127,7 @@ module _ (J : Answers) (d : Design) (start : List ℕ) (budget : ℕ) where
   not_below : (n : ℕ) → nat_lt n n ≡ false
   not_below n = grind (arith, nat_tests)
 
-  first_commits : (es : List Entry) (m : Move) → IsLegal J d start budget es → length es < budget → is_move d (sizes_now start es) m ≡ true → is_fair_by J d (sizes_now start es) m ≡ true
+  pub first_commits : (es : List Entry) (m : Move) → IsLegal J d start budget es → length es < budget → is_move d (sizes_now start es) m ≡ true → is_fair_by J d (sizes_now start es) m ≡ true
       → after_move J d start budget es m ≡ es ++ Commit m 0 ∷ []
   first_commits es m legal room is fair =
       commits_by es m (here d (sizes_now start es) m) (length es == budget) (nat_lt (length (commits_of es)) (length (commits_of es))) (nat_lt 0 (known_at es (length es) m)) (is_fair_by J d (sizes_now start es) m)
@@ -136,10 +136,10 @@ module _ (J : Answers) (d : Design) (start : List ℕ) (budget : ℕ) where
 
   -- ---- the sweep
 
-  swept : (es : List Entry) → All (λ m. is_move d (sizes_now start es) m ≡ true) (sweep_of J d start es)
+  pub swept : (es : List Entry) → All (λ m. is_move d (sizes_now start es) m ≡ true) (sweep_of J d start es)
   swept es = All-filter (is_fair_by J d (sizes_now start es)) (λ m. is_move d (sizes_now start es) m ≡ true) (moves_at d (sizes_now start es)) (all_moves d (sizes_now start es) (λ m. is_move d (sizes_now start es) m ≡ true) (λ m is. is))
 
-  swept_fair : (es : List Entry) → All (λ m. is_fair_by J d (sizes_now start es) m ≡ true) (sweep_of J d start es)
+  pub swept_fair : (es : List Entry) → All (λ m. is_fair_by J d (sizes_now start es) m ≡ true) (sweep_of J d start es)
   swept_fair es = filter_passes (is_fair_by J d (sizes_now start es)) (moves_at d (sizes_now start es))
 
   pub sweep_legal : (es : List Entry) → IsLegal J d start budget es → IsLegal J d start budget (after_round J d start budget es (sweep_of J d start es))

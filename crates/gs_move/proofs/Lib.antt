@@ -7,3 +7,4 @@ pub mod MinimumLaws
 pub mod LegalLaws
 pub mod AloneLaws
 pub mod FewLaws
+pub mod EarnedLaws

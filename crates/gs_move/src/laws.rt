@@ -7,6 +7,7 @@ ghost use Rattle.gs_design.specs.Timing.{FitTiming, timing_of};
 ghost use Rattle.gs_design.specs.declared.time.NetTime.{NetTime};
 ghost use Rattle.gs_move.specs.Alone.{after_round, alone_from, sweep_of};
 ghost use Rattle.gs_move.specs.Delta.{AreInstalled, AreRecordsFor};
+ghost use Rattle.gs_move.specs.Earned.{IsEarned};
 ghost use Rattle.gs_move.specs.Entries.{IsMoveOf, commits_of};
 ghost use Rattle.gs_move.specs.Fair.{IsFair};
 ghost use Rattle.gs_move.specs.Judge.{Answers, fair_moves, is_fair_by};
@@ -82,13 +83,15 @@ pub fn settling_is_legal(design: &Design)
 }
 
 /// Recovery without further workers, whatever the judge is: it ends settled where a sweep finds no move, and spent where there is one and the
-/// entries equal the budget. Else the round is run: it keeps the entries legal, adds one, and recovery goes on from there.
+/// entries equal the budget. Else the round is run: it keeps the entries legal and the rejects earned, adds an entry, and recovery goes on from
+/// there.
 pub fn recovery_goes_on(design: &Design)
     ensures settled { (J : Answers) (start : List ℕ) (budget : ℕ) (es : List Entry) → length (sweep_of J design.now start es) ≡ 0 → alone_from J design.now start budget es ≡ (es, Settled) }
     ensures spent { (J : Answers) (start : List ℕ) (budget : ℕ) (es : List Entry) → 0 < length (sweep_of J design.now start es) → length es ≡ budget → alone_from J design.now start budget es ≡ (es, Spent) }
     ensures goes_on { (J : Answers) (start : List ℕ) (budget : ℕ) (es : List Entry) → IsLegal J design.now start budget es → 0 < length (sweep_of J design.now start es) → length es < budget → alone_from J design.now start budget (after_round J design.now start budget es (sweep_of J design.now start es)) ≡ alone_from J design.now start budget es }
     ensures grows { (J : Answers) (start : List ℕ) (budget : ℕ) (es : List Entry) → IsLegal J design.now start budget es → 0 < length (sweep_of J design.now start es) → length es < budget → length es < length (after_round J design.now start budget es (sweep_of J design.now start es)) }
     ensures legal { (J : Answers) (start : List ℕ) (budget : ℕ) (es : List Entry) → IsLegal J design.now start budget es → IsLegal J design.now start budget (after_round J design.now start budget es (sweep_of J design.now start es)) }
+    ensures earned { (J : Answers) (start : List ℕ) (budget : ℕ) (es : List Entry) (n : ℕ) → IsLegal J design.now start budget es → length es < budget → IsEarned J design.now start es n → IsEarned J design.now start (after_round J design.now start budget es (sweep_of J design.now start es)) n }
 {
     let _ = design;
 }
