@@ -27,7 +27,7 @@ def program():
 
 
 class Run:
-    """One run: its exit code, what it printed, its seconds by the clock, and its peak resident memory in bytes."""
+    """One run: its exit code, what it printed, its seconds by the clock and of processor time, and its peak resident memory in bytes."""
 
     def __init__(self, words):
         began = time.monotonic()
@@ -36,6 +36,7 @@ class Run:
         _, status, usage = os.wait4(child.pid, 0)
         self.seconds = time.monotonic() - began
         self.exit = os.waitstatus_to_exitcode(status)
+        self.cpu = usage.ru_utime + usage.ru_stime
         self.peak = usage.ru_maxrss * 1024
 
 
@@ -57,6 +58,14 @@ def bound(text, is_held):
     """Prints whether a bound is held, and answers it."""
     print(f"{'held' if is_held else 'PASSED OVER'}: {text}")
     return is_held
+
+
+def growth_is_held(seconds, things="gates"):
+    """Judges the time of 1,000,000 things against that of 100,000, where both were measured."""
+    if not {100_000, 1_000_000} <= seconds.keys():
+        return True
+    growth = seconds[1_000_000] / seconds[100_000]
+    return bound(f"at most 13 times the time for 10 times the {things} ({growth:.1f})", growth <= 13)
 
 
 def judge_reader(program, label, source, wanted):

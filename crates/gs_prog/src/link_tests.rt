@@ -1,13 +1,8 @@
 //! Worked designs and refusals, found by hand.
 
-use gs_design::{CellId, Design, Driver, EndPlace, InstId, NetId};
-use gs_lib::read_library;
-use gs_libtree::read_tree;
-use gs_link::link;
-use gs_sdc::read_sdc;
-use gs_spef::read_spef;
-use gs_survey::{Counted, LinkErr};
-use gs_verilog::read_netlist;
+use crate::linked::{Texts, linked};
+use gs_design::Design;
+use gs_survey::LinkErr;
 use std::alloc::Global;
 use std::test::Fail;
 
@@ -41,32 +36,21 @@ fn library_text(alloc: Global) -> Result<Vec<u8>, Fail> {
     Ok(text)
 }
 
-/// Three short texts beside the library.
-#[derive(Clone, Copy)]
-struct Texts<'a> {
-    verilog: &'a [u8],
-    spef: &'a [u8],
-    sdc: &'a [u8],
-}
-
-const LIMIT: usize = 1 << 16;
-
-/// What the link answers for these texts.
-fn linked(alloc: Global, texts: &Texts) -> Result<Result<Design, LinkErr>, Fail> {
-    let text = library_text(alloc)?;
-    if text.len() > LIMIT
-        || texts.verilog.len() > LIMIT
-        || texts.spef.len() > LIMIT
-        || texts.sdc.len() > LIMIT
-    {
-        return Err(Fail::new("a text of tests is short"));
-    }
-    let root = read_tree(alloc, text.as_slice())?;
-    let library = read_library(alloc, &root)?;
-    let netlist = read_netlist(alloc, texts.verilog)?;
-    let wires = read_spef(alloc, texts.spef)?;
-    let limits = read_sdc(alloc, texts.sdc, library.units)?;
-    Ok(link(alloc, netlist, library, &wires, &limits))
+/// What the link answers for these texts beside the library.
+fn linked_with(
+    alloc: Global,
+    verilog: &[u8],
+    spef: &[u8],
+    sdc: &[u8],
+) -> Result<Result<Design, LinkErr>, Fail> {
+    let library = library_text(alloc)?;
+    let texts = Texts {
+        library: library.as_slice(),
+        verilog,
+        spef,
+        sdc,
+    };
+    linked(alloc, &texts)
 }
 
 fn push_words(text: &mut Vec<u8>, words: &[&[u8]]) -> Result<(), Fail> {
@@ -121,8 +105,8 @@ fn order_text(alloc: Global, design: &Design) -> Result<Vec<u8>, Fail> {
 }
 
 /// A refusal, or the nets of the design in its order.
-fn outcome(alloc: Global, texts: &Texts) -> Result<Vec<u8>, Fail> {
-    match linked(alloc, texts)? {
+fn outcome(alloc: Global, verilog: &[u8], spef: &[u8], sdc: &[u8]) -> Result<Vec<u8>, Fail> {
+    match linked_with(alloc, verilog, spef, sdc)? {
         Ok(design) => order_text(alloc, &design),
         Err(error) => refusal_text(alloc, &error),
     }
@@ -225,12 +209,7 @@ fn netlists_and_their_outcomes(rt: HostRuntime) -> Result<(), Fail> {
         ),
     ];
     for (verilog, want) in rows {
-        let texts = Texts {
-            verilog,
-            spef: b"",
-            sdc: CLOCK,
-        };
-        assert_eq!(rt; outcome(rt.alloc(), &texts)?.as_slice(), want);
+        assert_eq!(rt; outcome(rt.alloc(), verilog, b"", CLOCK)?.as_slice(), want);
     }
     Ok(())
 }
@@ -307,12 +286,7 @@ fn limits_and_their_outcomes(rt: HostRuntime) -> Result<(), Fail> {
         ),
     ];
     for (spef, sdc, want) in rows {
-        let texts = Texts {
-            verilog: CHAIN,
-            spef,
-            sdc,
-        };
-        assert_eq!(rt; outcome(rt.alloc(), &texts)?.as_slice(), want);
+        assert_eq!(rt; outcome(rt.alloc(), CHAIN, spef, sdc)?.as_slice(), want);
     }
     Ok(())
 }

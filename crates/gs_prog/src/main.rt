@@ -6,9 +6,19 @@
 #![tactic(auto)]
 
 #[cfg(test)]
+mod check_tests;
+#[cfg(test)]
 mod limits;
 #[cfg(test)]
 mod link_tests;
+#[cfg(test)]
+mod linked;
+#[cfg(test)]
+mod mixed;
+#[cfg(test)]
+mod sizes_tests;
+#[cfg(test)]
+mod timing_tests;
 
 use gs_quantity::Mem;
 use gs_shelf::HostShelf;
