@@ -1,3 +1,4 @@
 pub mod LeakLaws
 pub mod KindLaws
+pub mod OneNet
 pub mod OutcomeLaws

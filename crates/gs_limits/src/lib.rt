@@ -21,6 +21,8 @@ mod kind;
 mod leak;
 mod limit;
 mod outcome;
+#[cfg(test)]
+mod tests;
 mod totals;
 mod unmet;
 

@@ -3,5 +3,6 @@ pub mod EdgeLaws
 pub mod EvalLaws
 pub mod FrameLaws
 pub mod LateLaws
+pub mod OneNet
 pub mod PassLaws
 pub mod SinkLaws

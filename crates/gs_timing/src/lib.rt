@@ -18,6 +18,8 @@ mod edge;
 mod eval;
 mod hung;
 mod laws;
+#[cfg(test)]
+mod tests;
 mod whole;
 
 pub use eval::eval_net;
