@@ -1,6 +1,7 @@
 //! Whole runs of `check` on the mixed design: at the netlist's sizes, and at those that two other programs of sizing ended with.
 
-use crate::mixed::{LIBRARY, LIMITS, NETLIST, TIGHT_LIMITS, WIRES};
+use crate::linked::Texts;
+use crate::mixed::{LIMITS, TIGHT_LIMITS, texts_with};
 use gs_quantity::Mem;
 use gs_shelf::{Bytes, FileList, NeverFails};
 use gs_top::{Words, exit_of, run};
@@ -125,13 +126,13 @@ fn check_words(alloc: Global, with_from: bool) -> Result<Words, Mem> {
     Ok(words)
 }
 
-/// The files of the design with these constraints, and a report of an earlier run.
-fn files_with(alloc: Global, sdc: &str) -> Result<FileList, AllocError> {
+/// The files of these texts, and a report of an earlier run.
+fn files_of(alloc: Global, texts: &Texts) -> Result<FileList, AllocError> {
     let mut files = FileList::new(alloc);
-    files.put(alloc, b"n.lib", LIBRARY.as_bytes())?;
-    files.put(alloc, b"n.v", NETLIST.as_bytes())?;
-    files.put(alloc, b"n.spef", WIRES.as_bytes())?;
-    files.put(alloc, b"n.sdc", sdc.as_bytes())?;
+    files.put(alloc, b"n.lib", texts.library)?;
+    files.put(alloc, b"n.v", texts.verilog)?;
+    files.put(alloc, b"n.spef", texts.spef)?;
+    files.put(alloc, b"n.sdc", texts.sdc)?;
     files.put(alloc, b"n.rpt", b"earlier")?;
     Ok(files)
 }
@@ -157,7 +158,7 @@ fn ends_so(
 
 /// Whether the run of a row ends as the row says.
 fn stands(alloc: Global, row: Row) -> Result<bool, Fail> {
-    let mut files = files_with(alloc, row.sdc)?;
+    let mut files = files_of(alloc, &texts_with(row.sdc))?;
     if let Some(from) = row.from {
         files.put(alloc, b"n.from", from.as_bytes())?;
     }
@@ -186,7 +187,7 @@ fn zeros(alloc: Global, count: usize) -> Result<Vec<u8>, AllocError> {
 
 /// Whether a run, in which the file of this name has these bytes, is refused with this line, and stores nothing.
 fn refuses(alloc: Global, name: &[u8], bytes: &[u8], line: &str) -> Result<bool, Fail> {
-    let mut files = files_with(alloc, LIMITS)?;
+    let mut files = files_of(alloc, &texts_with(LIMITS))?;
     files.put(alloc, name, bytes)?;
     ends_so(alloc, files, true, 3, line, "earlier")
 }

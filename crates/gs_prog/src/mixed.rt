@@ -1,8 +1,10 @@
 //! The mixed design: unequal rise and fall, tables over slews and loads in both orders, arcs of each sense, a flip-flop, a driving cell,
 //! three sizes of one function, and pin bounds of their own. `examples/mixed` has the same files.
 
+use crate::linked::Texts;
+
 /// Its library, in units of 10 ps and 1 pF.
-pub(crate) const LIBRARY: &str =
+const LIBRARY: &str =
     "/* A small library with what the simple one lacks: unequal rise and fall, tables over slew and load in both orders,
    positive, negative and missing unateness, three sizes of one function, pin bounds of their own. */
 library (mixed) {
@@ -79,7 +81,7 @@ library (mixed) {
 ";
 
 /// Its netlist.
-pub(crate) const NETLIST: &str = "module mixed (ck, a, b, y, w);
+const NETLIST: &str = "module mixed (ck, a, b, y, w);
   input ck, a, b;
   output y, w;
   wire n1, n2, n3, n4, n5, n6, n7, q;
@@ -97,7 +99,7 @@ endmodule
 ";
 
 /// Its wires.
-pub(crate) const WIRES: &str = "*C_UNIT 1 PF
+const WIRES: &str = "*C_UNIT 1 PF
 *D_NET n1 0.0021
 *END
 *D_NET n2 0.0030
@@ -137,3 +139,13 @@ set_output_delay 6.5 [get_ports w] -clock clk
 set_load -pin_load 0.005 [get_ports y]
 set_load -pin_load 0.0095 [get_ports w]
 ";
+
+/// The texts of the design with these constraints.
+pub(crate) fn texts_with(sdc: &'static str) -> Texts<'static> {
+    Texts {
+        library: LIBRARY.as_bytes(),
+        verilog: NETLIST.as_bytes(),
+        spef: WIRES.as_bytes(),
+        sdc: sdc.as_bytes(),
+    }
+}

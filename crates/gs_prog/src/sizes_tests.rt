@@ -1,7 +1,7 @@
 //! Texts of sizes over the mixed design, and over one without instances: what each is read as, or why it is refused.
 
 use crate::linked::{Texts, design_of};
-use crate::mixed::{LIBRARY, LIMITS, NETLIST, WIRES};
+use crate::mixed::{LIMITS, texts_with};
 use gs_design::{Design, Sizes};
 use gs_sizes::{SizesErr, read_sizes, write_sizes};
 use itoa::Buffer;
@@ -10,23 +10,19 @@ use std::test::Fail;
 
 const LIMIT: usize = 1 << 16;
 
+/// A clock alone.
+const CLOCK: &str = "create_clock -period 1";
+
 fn mixed_design(alloc: Global) -> Result<Design, Fail> {
-    let texts = Texts {
-        library: LIBRARY.as_bytes(),
-        verilog: NETLIST.as_bytes(),
-        spef: WIRES.as_bytes(),
-        sdc: LIMITS.as_bytes(),
-    };
-    design_of(alloc, &texts)
+    design_of(alloc, &texts_with(LIMITS))
 }
 
 /// A design without instances.
 fn empty_design(alloc: Global) -> Result<Design, Fail> {
     let texts = Texts {
-        library: LIBRARY.as_bytes(),
         verilog: b"module e (a); input a; endmodule",
         spef: b"",
-        sdc: b"create_clock -period 1",
+        ..texts_with(CLOCK)
     };
     design_of(alloc, &texts)
 }

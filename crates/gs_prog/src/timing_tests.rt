@@ -1,7 +1,7 @@
 //! The timing of the mixed design, net by net, as two programs reckoned it that have no code in common with this one.
 
-use crate::linked::{Texts, design_of};
-use crate::mixed::{LIBRARY, LIMITS, NETLIST, WIRES};
+use crate::linked::design_of;
+use crate::mixed::{LIMITS, texts_with};
 use gs_design::{Design, Edge, End, EndPlace, InstId, NetId, NetTime, TimeView, Timing};
 use gs_quantity::Micro;
 use gs_timing::time_all;
@@ -158,13 +158,7 @@ fn rows() -> [Row; 13] {
 }
 
 fn mixed_design(alloc: Global) -> Result<Design, Fail> {
-    let texts = Texts {
-        library: LIBRARY.as_bytes(),
-        verilog: NETLIST.as_bytes(),
-        spef: WIRES.as_bytes(),
-        sdc: LIMITS.as_bytes(),
-    };
-    design_of(alloc, &texts)
+    design_of(alloc, &texts_with(LIMITS))
 }
 
 /// Whether the net of a row has its name and its record.
@@ -182,8 +176,9 @@ fn each_net_of_the_mixed_design(rt: HostRuntime) -> Result<(), Fail> {
     let timing = time_all(rt.alloc(), &design, &sizes)?;
     assert_eq!(rt; sizes.as_slice(), [1, 1, 0, 0, 0, 0, 2, 0, 1, 0].as_slice());
     assert_eq!(rt; timing.len(), 13);
-    for row in rows() {
-        assert!(rt; stands(&design, &timing, &row), "net {}", row.net.number());
+    let table = rows();
+    for row in &table {
+        assert!(rt; stands(&design, &timing, row), "net {}", row.net.number());
     }
     Ok(())
 }
