@@ -13,8 +13,8 @@ const TABLES: &[u8] =
     b"cell_rise (t) { values (\"4, 24\"); } cell_fall (t) { values (\"4, 24\"); } rise_transition (t) { values (\"2, 12\"); } fall_transition (t) { values (\"2, 12\"); } } } } ";
 
 /// Cells by the text before their tables: inverters I1 and I2, gates N1 and N2 with two inputs, a flip-flop F1, a buffer B1 with the
-/// footprint of the inverters, and M1, whose second input has no arc.
-const CELLS: [&[u8]; 7] = [
+/// footprint of the inverters, M1, whose second input has no arc, its alternative M2, and a latch L1, which isn't read.
+const CELLS: [&[u8]; 9] = [
     b"cell (I1) { cell_leakage_power : 1; cell_footprint : inv; pin (a) { direction : input; capacitance : 1; } pin (o) { direction : output; max_capacitance : 8; function : \"!a\"; timing () { related_pin : a; timing_sense : negative_unate; ",
     b"cell (I2) { cell_leakage_power : 3; cell_footprint : inv; pin (a) { direction : input; capacitance : 2; } pin (o) { direction : output; max_capacitance : 16; function : \"!a\"; timing () { related_pin : a; timing_sense : negative_unate; ",
     b"cell (N1) { cell_leakage_power : 2; cell_footprint : nand; pin (a, b) { direction : input; capacitance : 1; } pin (o) { direction : output; function : \"!(a*b)\"; timing () { related_pin : \"a b\"; timing_sense : negative_unate; ",
@@ -22,6 +22,8 @@ const CELLS: [&[u8]; 7] = [
     b"cell (F1) { cell_leakage_power : 4; cell_footprint : ff; ff (\"IQ\", \"IQN\") { next_state : d; clocked_on : ck; } pin (ck) { direction : input; capacitance : 1; clock : true; } pin (d) { direction : input; capacitance : 1; } pin (q) { direction : output; function : \"IQ\"; timing () { related_pin : ck; timing_type : rising_edge; ",
     b"cell (B1) { cell_leakage_power : 0.5; cell_footprint : inv; pin (a) { direction : input; capacitance : 1; } pin (o) { direction : output; function : \"a\"; timing () { related_pin : a; ",
     b"cell (M1) { cell_leakage_power : 1; cell_footprint : m; pin (a, b) { direction : input; capacitance : 1; } pin (o) { direction : output; function : \"a+b\"; timing () { related_pin : a; ",
+    b"cell (M2) { cell_leakage_power : 2; cell_footprint : m; pin (a, b) { direction : input; capacitance : 1; } pin (o) { direction : output; function : \"a+b\"; timing () { related_pin : \"a b\"; ",
+    b"cell (L1) { cell_leakage_power : 1; latch (\"IQ\", \"IQN\") { enable : e; data_in : d; } pin (e, d) { direction : input; capacitance : 1; } pin (o) { direction : output; function : \"IQ\"; timing () { related_pin : d; ",
 ];
 
 /// The library of these cells.
@@ -287,6 +289,113 @@ fn limits_and_their_outcomes(rt: HostRuntime) -> Result<(), Fail> {
     ];
     for (spef, sdc, want) in rows {
         assert_eq!(rt; outcome(rt.alloc(), CHAIN, spef, sdc)?.as_slice(), want);
+    }
+    Ok(())
+}
+
+#[test]
+fn the_first_of_several_refusals(rt: HostRuntime) -> Result<(), Fail> {
+    let unknown_pin = b"module m (x); input x; I1 g1 (.q(x), .o(n)); endmodule".as_slice();
+    let rows: [(&[u8], &[u8], &[u8], &[u8]); 16] = [
+        (
+            b"module m (x); input x; L1 g1 (.e(x), .d(x), .o(n)); endmodule",
+            b"",
+            CLOCK,
+            b"cell g1",
+        ),
+        (
+            CHAIN,
+            b"",
+            b"create_clock -period 100\nset_driving_cell -lib_cell L1 [get_ports x]",
+            b"cell x",
+        ),
+        (
+            b"module m (x); input x; K9 g1 (.a(x), .o(n)); endmodule",
+            b"",
+            b"create_clock -period 100\nset_driving_cell -lib_cell K9 [get_ports x]",
+            b"cell g1",
+        ),
+        (
+            unknown_pin,
+            b"",
+            b"create_clock -period 100\nset_driving_cell -lib_cell F1 [get_ports x]",
+            b"cell x",
+        ),
+        (
+            unknown_pin,
+            b"",
+            b"create_clock -period 100\nset_driving_cell -lib_cell I2 -pin a [get_ports x]",
+            b"pin g1 q",
+        ),
+        (
+            b"module m (x); input x; I1 g1 (.a(x)); endmodule",
+            b"",
+            b"create_clock -period 100\nset_driving_cell -lib_cell I2 -pin a [get_ports x]",
+            b"pin x a",
+        ),
+        (
+            b"module m (x); input x; I1 g0 (.a(x), .o(x)); I1 g1 (.a(x)); endmodule",
+            b"",
+            CLOCK,
+            b"open g1 o",
+        ),
+        (
+            b"module m (x); input x; I1 g1 (.a(v), .o(n)); endmodule",
+            b"",
+            b"create_clock -period 100 [get_ports q]",
+            b"undriven v",
+        ),
+        (
+            CHAIN,
+            b"",
+            b"create_clock -period 100\nset_output_delay 1 [get_ports x]\nset_input_delay 1 [get_ports z]",
+            b"port z",
+        ),
+        (
+            CHAIN,
+            b"",
+            b"create_clock -period 100\nset_driving_cell -lib_cell I2 [get_ports w]\nset_load 1 [get_ports v]",
+            b"port v",
+        ),
+        (
+            b"module m (x, z); input x; output z; M1 g1 (.a(x), .b(x), .o(z)); endmodule",
+            b"*D_NET q7 1\n*END\n",
+            CLOCK,
+            b"net q7",
+        ),
+        (
+            b"module m (x, z); input x; output z; M2 g1 (.a(x), .b(x), .o(z)); endmodule",
+            b"",
+            CLOCK,
+            b"arc M1 b",
+        ),
+        (
+            b"module e (a); input a; wire u, v; endmodule",
+            b"*D_NET v 1\n*END\n*D_NET a 1\n*END\n",
+            CLOCK,
+            b"a",
+        ),
+        (
+            CHAIN,
+            b"*D_NET z 1\n*END\n*D_NET n1 1\n*END\n*D_NET x 1\n*END\n",
+            CLOCK,
+            b"x n1 z",
+        ),
+        (
+            CHAIN,
+            b"*D_NET n1 1\n*END\n*D_NET z 1\n*END\n*D_NET q7 1\n*END\n",
+            CLOCK,
+            b"net q7",
+        ),
+        (
+            CHAIN,
+            b"*D_NET q8 1\n*END\n*D_NET z 1\n*END\n*D_NET q7 1\n*END\n",
+            CLOCK,
+            b"net q8",
+        ),
+    ];
+    for (verilog, spef, sdc, want) in rows {
+        assert_eq!(rt; outcome(rt.alloc(), verilog, spef, sdc)?.as_slice(), want);
     }
     Ok(())
 }
