@@ -8,3 +8,4 @@ pub mod LegalLaws
 pub mod AloneLaws
 pub mod FewLaws
 pub mod EarnedLaws
+pub mod TrialLaws

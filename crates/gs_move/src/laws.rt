@@ -6,11 +6,12 @@ ghost use Rattle.gs_design.specs.Sizes.{FitSizes, move_count};
 ghost use Rattle.gs_design.specs.Timing.{FitTiming, timing_of};
 ghost use Rattle.gs_design.specs.declared.time.NetTime.{NetTime};
 ghost use Rattle.gs_move.specs.Alone.{after_round, alone_from, sweep_of};
+ghost use Rattle.gs_move.specs.Change.{change_of};
 ghost use Rattle.gs_move.specs.Delta.{AreInstalled, AreRecordsFor};
 ghost use Rattle.gs_move.specs.Earned.{IsEarned};
 ghost use Rattle.gs_move.specs.Entries.{IsMoveOf, commits_of};
 ghost use Rattle.gs_move.specs.Fair.{IsFair};
-ghost use Rattle.gs_move.specs.Judge.{Answers, fair_moves, is_fair_by};
+ghost use Rattle.gs_move.specs.Judge.{Answers, IsLawful, fair_moves, is_fair_by};
 ghost use Rattle.gs_move.specs.Legal.{IsLegal};
 ghost use Rattle.gs_move.specs.Minimum.{IsMinimum, IsMinimumBy};
 ghost use Rattle.gs_move.specs.Moves.{after, is_move};
@@ -18,11 +19,12 @@ ghost use Rattle.gs_move.specs.Recovery.{recovery};
 ghost use Rattle.gs_move.specs.Run.{IsRun};
 ghost use Rattle.gs_move.specs.Settle.{entries_after, known_at, settle_of};
 ghost use Rattle.gs_move.specs.State.{sizes_now};
-ghost use Rattle.gs_move.specs.Trial.{changed_nets};
+ghost use Rattle.gs_move.specs.Trial.{changed_nets, delta_of, trial_of};
 ghost use Rattle.gs_move.specs.declared.ended.Ended.TheVariants.{Settled, Spent};
 ghost use Rattle.gs_move.specs.declared.entry.Entry.{Entry};
 ghost use Rattle.gs_move.specs.declared.moves.Move.{Move};
 
+use crate::judge::Judge;
 use gs_design::Design;
 
 /// A move is one of the design, and the sizes after it fit where those before it do.
@@ -46,6 +48,22 @@ pub fn delta_is_exact(design: &Design)
     ensures whole { (s : List ℕ) → FitTiming design.now (timing_of design.now s) }
     ensures fits { (s : List ℕ) (m : Move) → AreRecordsFor (length design.now.nets) (changed_nets design.now s m) }
     ensures exact { (s : List ℕ) (m : Move) (t : List NetTime) → AreInstalled (changed_nets design.now s m) (timing_of design.now s) t → t ≡ timing_of design.now (after s m) }
+{
+    let _ = design;
+}
+
+/// The answers of every judge keep the law of judges.
+pub fn judges_are_lawful<J: Judge>(judge: &J)
+    ensures { IsLawful (J.answers judge.now) }
+{
+    let _ = judge;
+}
+
+/// The outcome of a trial by a lawful judge is what the judge says of the move's change, at a glance too; and where the move is Fair by it,
+/// the delta names all records that the move changes.
+pub fn trials_are_judged(design: &Design)
+    ensures outcome { (J : Answers) (s : List ℕ) (m : Move) (front worker : ℕ) → IsLawful J → (trial_of J design.now s m front worker).outcome ≡ J.judge (change_of design.now s m) }
+    ensures delta { (J : Answers) (s : List ℕ) (m : Move) (front worker : ℕ) → IsLawful J → is_fair_by J design.now s m ≡ true → (trial_of J design.now s m front worker).delta ≡ delta_of m (changed_nets design.now s m) }
 {
     let _ = design;
 }

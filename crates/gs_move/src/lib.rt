@@ -19,8 +19,12 @@
 //! | `Legal.antt`, `Earned.antt` | which entries a run may have, and which rejects are earned |
 //! | `Alone.antt` | the entries of recovery without further workers |
 //!
-//! [`Judge`] is the trait of judges and [`Recovery`] the one that `size` uses. [`install`] changes sizes and timing as a [`Delta`] says. What
-//! holds of the definitions for all inputs are calls that do nothing, which the crates above reason with.
+//! [`Judge`] is the trait of judges and [`Recovery`] the one that `size` uses. [`install`] changes sizes and timing as a [`Delta`] says.
+//!
+//! What holds of the definitions for all inputs are calls that do nothing (`src/laws.rt`), which the crates above reason with. So they speak of
+//! settling, sweeping and recovery without proving any of it again: that recovery's judge finds exactly the Fair moves Fair, that a delta gives the
+//! timing after its move, that settling keeps entries legal, that each round adds an entry and keeps rejects earned, and how many entries there
+//! can be.
 //!
 //! To add a judge, implement [`Judge`] for it: the check asks for the proof of its law, and everything above holds of it.
 #![tactic(auto)]
@@ -46,8 +50,8 @@ pub use ended::Ended;
 pub use entry::{Entries, Entry};
 pub use judge::Judge;
 pub use laws::{
-    delta_is_exact, legal_is_few, legal_is_run, minimum_is_none_fair, moves_fit,
-    recovery_finds_fair, recovery_goes_on, settling_is_legal,
+    delta_is_exact, judges_are_lawful, legal_is_few, legal_is_run, minimum_is_none_fair, moves_fit,
+    recovery_finds_fair, recovery_goes_on, settling_is_legal, trials_are_judged,
 };
 pub use moves::Move;
 pub use outcome::{Outcome, Why};

@@ -23,7 +23,7 @@ pub struct Overs {
     pub new: u128,
 }
 
-// What a change of a net's timing does to its limits.
+// What a change of a net's timing does to its limits. A net has at most 16,777,218 of them, each exceeded by at most 2^64.
 fn outcome_at(design: &Design, net: NetId, old: &NetTime, new: &NetTime) -> NetOutcome
     requires { net < length design.now.nets }
     ensures value { result ≡ outcome_of design.now net old.now new.now }

@@ -4,6 +4,7 @@
 ghost use Rattle.std.specs.Prelude.{◌≡◌, IfOk, true};
 ghost use Rattle.gs_design.specs.Sizes.{FitSizes};
 ghost use Rattle.gs_design.specs.Timing.{FitTiming, IsTiming, timing_of};
+ghost use Rattle.gs_move.specs.Change.{change_of};
 ghost use Rattle.gs_move.specs.Moves.{after, is_move};
 ghost use Rattle.gs_move.specs.Trial.{trial_of, trial_with};
 
@@ -12,7 +13,7 @@ use crate::changed::changed_records;
 use crate::laws::timing_is_made;
 use gs_design::{Design, NetTimes, Sizes, Timing};
 use gs_list::Rows;
-use gs_move::{Delta, Judge, Move, Outcome, Trial, moves_fit};
+use gs_move::{Delta, Judge, Move, Outcome, Trial, judges_are_lawful, moves_fit};
 use gs_quantity::{Mem, Steps};
 use gs_timing::time_all;
 use std::alloc::Global;
@@ -85,9 +86,12 @@ pub fn try_move<J: Judge, L: Ledger>(
     requires sizes { FitSizes design.now sizes.now }
     requires timing { IsTiming design.now sizes.now timing.now }
     requires mv { is_move design.now sizes.now mv ≡ true }
-    ensures { IfOk result (λ t. t ≡ trial_of (J.answers judge.now) design.now sizes.now mv front worker) }
+    ensures trial { IfOk result (λ t. t ≡ trial_of (J.answers judge.now) design.now sizes.now mv front worker) }
+    // at a glance too, by the law of judges
+    ensures judged { IfOk result (λ t. t.outcome ≡ (J.answers judge.now).judge (change_of design.now sizes.now mv)) }
 {
     let _ = steps;
+    judges_are_lawful(judge);
     timing_before(design, sizes, timing);
     let leak_old = present_leak(design, sizes, &mv);
     let leak_new = new_leak(design, sizes, &mv);
