@@ -1,0 +1,4 @@
+pub mod JournalLaws
+pub mod KeptLaws
+pub mod NotedLaws
+pub mod SettleLaws

@@ -1,0 +1,3 @@
+pub mod GrowLaws
+pub mod SettleLaws
+pub mod TurnLaws
