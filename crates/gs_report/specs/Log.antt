@@ -1,10 +1,10 @@
 -- The text of a log.
 
-use Rattle.std.specs.Prelude.{ℕ, List, [], ◌∷◌, ◌++◌, codes, decimal, flat_map, length}
+use Rattle.std.specs.Prelude.{ℕ, ◌<◌, ◌^◌, List, [], ◌∷◌, ◌++◌, codes, decimal, flat_map, length, All}
 use Rattle.gs_design.specs.Ends.{alt_cell}
 use Rattle.gs_design.specs.Insts.{inst_at}
 use Rattle.gs_design.specs.declared.design.Design.{Design}
-use Rattle.gs_move.specs.Entries.{move_of, worker_of}
+use Rattle.gs_move.specs.Entries.{AreEntriesOf, move_of, worker_of}
 use Rattle.gs_move.specs.declared.ended.Ended.{Ended}
 use Rattle.gs_move.specs.declared.ended.Ended.TheVariants.{Settled, Spent}
 use Rattle.gs_move.specs.declared.entry.Entry.{Entry}
@@ -37,3 +37,9 @@ end_line l = line (codes "end") (ended_word l.ended ∷ decimal (length l.entrie
 -- a line with the version, a line for each entry in order, and a last line
 abbrev pub log_text : Design → Log → List ℕ
 log_text d l = line (codes "gate-sizing-log") (codes "1" ∷ []) ++ flat_map (entry_line d) l.entries ++ end_line l
+
+-- a log of a design: its entries are of moves of the design, and its numbers are those that a worker and a budget can have
+pub record IsLogOf (d : Design) (l : Log) : Type 0 where
+  pub entries : AreEntriesOf d l.entries
+  pub workers : All (λ e. worker_of e < 2 ^ 32) l.entries
+  pub budget : l.budget < 2 ^ 64

@@ -93,7 +93,11 @@ violation_line d v =
 abbrev pub violations_text : Design → List Violation → List ℕ
 violations_text d vs = count_line (codes "violations") (length vs) ++ flat_map (violation_line d) vs
 
--- a line with the version, the lines of a run, the leakage, and the violations
+-- a line with the version, these lines of a run, the leakage, and the violations
+abbrev pub report_with : (run : List ℕ) → Design → (sizes : List ℕ) → List NetTime → List ℕ
+report_with run d s t =
+    line (codes "gate-sizing-report") (codes "1" ∷ []) ++ run ++ leak_line d s ++ violations_text d (violations_of d t)
+
+-- with the lines of a run, where there was one
 abbrev pub report_text : Design → (sizes : List ℕ) → List NetTime → Option Ran → List ℕ
-report_text d s t ran =
-    line (codes "gate-sizing-report") (codes "1" ∷ []) ++ ran_text ran ++ leak_line d s ++ violations_text d (violations_of d t)
+report_text d s t ran = report_with (ran_text ran) d s t
