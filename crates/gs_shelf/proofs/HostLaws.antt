@@ -8,6 +8,10 @@ pub still_of : {T : Type 0} → (before now : ℕ) (r : Result T ShelfErr) → I
 still_of before now (Ok x) failed still ne = still
 still_of before now (Err e) failed still ne = absurd (ne (ap Err failed))
 
-pub cause_of : {T : Type 0} → (before now : ℕ) (r : Result T ShelfErr) → OnErr r (now ≡ next_count before) → HasCause before now r
+pub counted_of : {T : Type 0} → (before now : ℕ) (r : Result T ShelfErr) → OnErr r (now ≡ next_count before) → r ≡ Err Failed → now ≡ next_count before
+counted_of before now (Ok x) counted is = cc
+counted_of before now (Err e) counted is = counted
+
+pub cause_of : {T : Type 0} → (before now : ℕ) (r : Result T ShelfErr) → (r ≡ Err Failed → now ≡ next_count before) → HasCause before now r
 cause_of before now (Ok x) counted = tt
-cause_of before now (Err e) counted = λ _. omega (arith, counted)
+cause_of before now (Err e) counted = λ failed. let risen : now ≡ next_count before = counted (ap Err failed) in omega (arith, risen)

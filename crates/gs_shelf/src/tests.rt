@@ -2,15 +2,14 @@ ghost use Rattle.std.specs.Prelude.{◌≤◌};
 
 use crate::calls::{Op, Shelf, ShelfErr};
 use crate::faultless::NeverFails;
-use crate::host::HostShelf;
 use crate::lists::{Bytes, Failures, FileList, Numbers};
 use crate::memory::MemShelf;
 use crate::transfer::{fill_room, write_out};
 use crate::whole::{FetchErr, read_whole};
 use std::alloc::{AllocError, Global};
+use std::io;
 use std::io::{Read, Write};
 use std::test::Fail;
-use std::{fs, io, process};
 
 /// A shelf with the file `a` of five bytes.
 fn one_file(alloc: Global, fails: &[u64], most: u64) -> Result<MemShelf, AllocError>
@@ -117,44 +116,6 @@ fn nothing_fails_without_faults(rt: HostRuntime) -> Result<(), Fail> {
     );
     assert_eq!(rt; shelf.said.as_slice(), b"xy".as_slice());
     assert_eq!(rt; shelf.files.into_vec().len(), 2);
-    Ok(())
-}
-
-/// So many bytes. The length is a parameter, so that no proof writes the list out.
-fn filled(alloc: Global, len: usize) -> Result<Vec<u8>, AllocError> {
-    vec![in alloc; 7u8; len]
-}
-
-#[test]
-fn a_real_file_is_written_and_read(rt: HostRuntime) -> Result<(), Fail> {
-    let alloc = rt.alloc();
-    let mut shelf = HostShelf::new(&rt);
-    let text = filled(alloc, 3_000_000)?;
-    let name = format!(in alloc; "/tmp/gs_shelf_host_test_{}", process::id(rt.process()))?;
-    let name = name.as_str();
-    shelf.store(alloc, name, text.as_slice())?;
-    let read = read_whole(alloc, &mut shelf, name)?;
-    fs::remove_file(&rt, name)?;
-    assert!(rt; read.as_slice() == text.as_slice());
-    assert_eq!(rt; shelf.faults, 0);
-    shelf.say(alloc, b"")?;
-    assert_eq!(rt;
-        read_whole(alloc, &mut shelf, name).err(),
-        Some(FetchErr::Failed)
-    );
-    assert_eq!(rt;
-        read_whole(alloc, &mut shelf, "/tmp").err(),
-        Some(FetchErr::Failed)
-    );
-    assert_eq!(rt;
-        shelf.store(alloc, "/tmp/no/such/folder", b"x"),
-        Err(ShelfErr::Failed)
-    );
-    assert_eq!(rt;
-        shelf.store(alloc, "/dev/full", b"x"),
-        Err(ShelfErr::Failed)
-    );
-    assert_eq!(rt; shelf.faults, 4);
     Ok(())
 }
 

@@ -1,5 +1,5 @@
 use Rattle.std.proofs.Common.{refl}
-use Rattle.gs_shelf.proofs.HostLaws.{still_of, cause_of}
+use Rattle.gs_shelf.proofs.HostLaws.{still_of, counted_of, cause_of}
 use Rattle.gs_shelf.proofs.host.HostShelfShelf.TheImpl.Goals as goal
 
 pub fetch-tells : goal.fetch-tells
@@ -9,7 +9,7 @@ fetch-tells g c = record {
   stay = λ _. refl;
   said = refl;
   later = λ _ _. c.ensures.later;
-  still = λ ne _ _. still_of _ _ c.result c.ensures.failed c.ensures.still ne;
+  still = λ ne _ _. c.ensures.still ne;
   cause = cause_of _ _ c.result c.ensures.counted;
 }
 
@@ -20,7 +20,7 @@ store-tells g c = record {
   others = λ _ _. refl;
   said = refl;
   later = λ _ _. c.ensures.later;
-  still = λ ne _ _. still_of _ _ c.result c.ensures.failed c.ensures.still ne;
+  still = λ ne _ _. c.ensures.still ne;
   cause = cause_of _ _ c.result c.ensures.counted;
 }
 
@@ -32,5 +32,5 @@ say-tells g c = record {
   stay = λ _. refl;
   later = λ _ _. c.ensures.later;
   still = λ ne _ _. still_of _ _ c.result c.ensures.failed c.ensures.still ne;
-  cause = cause_of _ _ c.result c.ensures.counted;
+  cause = cause_of _ _ c.result (counted_of _ _ c.result c.ensures.counted);
 }
