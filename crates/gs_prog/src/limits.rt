@@ -1,4 +1,4 @@
-//! The limits on cells and instances, on texts too large for the tests of a lower crate.
+//! The limits on cells, instances and nets, on texts too large for the tests of a lower crate.
 
 use gs_quantity::Mem;
 use gs_shelf::{Bytes, FileList, NeverFails};
@@ -30,10 +30,19 @@ fn many_cells(alloc: Global, count: u32) -> Result<Vec<u8>, AllocError> {
     Ok(text)
 }
 
-/// A netlist of so many instances of one cell, each with a net of its own.
-fn many_instances(alloc: Global, count: u32) -> Result<Vec<u8>, AllocError> {
-    let mut text = Vec::from_slice(alloc, b"module m (x); input x;")?;
-    for k in 0..count {
+/// Adds so many input ports after the first.
+fn add_ports(text: &mut Vec<u8>, ports: u32) -> Result<(), AllocError> {
+    for k in 0..ports {
+        let mut digits = Buffer::new();
+        text.extend_from_slice(b",p")?;
+        text.extend_from_slice(digits.format(k).as_bytes())?;
+    }
+    text.extend_from_slice(b";")
+}
+
+/// Adds so many instances of one cell, each with a net of its own.
+fn add_insts(text: &mut Vec<u8>, insts: u32) -> Result<(), AllocError> {
+    for k in 0..insts {
         let mut digits = Buffer::new();
         let number = digits.format(k).as_bytes();
         text.extend_from_slice(b"c0 i")?;
@@ -42,6 +51,14 @@ fn many_instances(alloc: Global, count: u32) -> Result<Vec<u8>, AllocError> {
         text.extend_from_slice(number)?;
         text.extend_from_slice(b"));")?;
     }
+    Ok(())
+}
+
+/// A netlist of an input port and so many more, and of so many instances of one cell, each with a net of its own.
+fn netlist_of(alloc: Global, ports: u32, insts: u32) -> Result<Vec<u8>, AllocError> {
+    let mut text = Vec::from_slice(alloc, b"module m (x); input x")?;
+    add_ports(&mut text, ports)?;
+    add_insts(&mut text, insts)?;
     text.extend_from_slice(b"endmodule")?;
     Ok(text)
 }
@@ -60,6 +77,8 @@ fn size_words(alloc: Global) -> Result<Words, Mem> {
         "n.sdc",
         "--sizes",
         "n.sizes",
+        "--log",
+        "n.log",
         "--report",
         "n.rpt",
     ] {
@@ -85,7 +104,14 @@ fn says(alloc: Global, library: &[u8], netlist: &[u8], line: &str) -> Result<boo
 fn a_library_of_too_many_cells(rt: HostRuntime) -> Result<(), Fail> {
     let alloc = rt.alloc();
     let most = many_cells(alloc, 65_535)?;
-    assert!(rt; says(alloc, most.as_slice(), EMPTY, "written 0\n")?);
+    assert!(rt;
+        says(
+            alloc,
+            most.as_slice(),
+            EMPTY,
+            "done settled leakage 0.000000 violations 0 commits 0\n"
+        )?
+    );
     let more = many_cells(alloc, 65_536)?;
     assert!(rt; says(alloc, more.as_slice(), EMPTY, "bad library toomany\n")?);
     Ok(())
@@ -95,7 +121,23 @@ fn a_library_of_too_many_cells(rt: HostRuntime) -> Result<(), Fail> {
 fn a_design_of_too_many_instances(rt: HostRuntime) -> Result<(), Fail> {
     let alloc = rt.alloc();
     let cells = many_cells(alloc, 1)?;
-    let more = many_instances(alloc, 2_097_152)?;
+    let more = netlist_of(alloc, 0, 2_097_152)?;
+    assert!(rt;
+        says(
+            alloc,
+            cells.as_slice(),
+            more.as_slice(),
+            "bad design toomany\n"
+        )?
+    );
+    Ok(())
+}
+
+#[test]
+fn a_design_of_too_many_nets(rt: HostRuntime) -> Result<(), Fail> {
+    let alloc = rt.alloc();
+    let cells = many_cells(alloc, 1)?;
+    let more = netlist_of(alloc, 2_097_152, 2_097_151)?;
     assert!(rt;
         says(
             alloc,

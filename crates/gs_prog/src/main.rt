@@ -6,6 +6,10 @@
 #![tactic(auto)]
 
 #[cfg(test)]
+mod book_tests;
+#[cfg(test)]
+mod chain;
+#[cfg(test)]
 mod check_tests;
 #[cfg(test)]
 mod limits;
@@ -16,9 +20,13 @@ mod linked;
 #[cfg(test)]
 mod mixed;
 #[cfg(test)]
+mod size_tests;
+#[cfg(test)]
 mod sizes_tests;
 #[cfg(test)]
 mod timing_tests;
+#[cfg(test)]
+mod trial_tests;
 
 use gs_quantity::Mem;
 use gs_shelf::HostShelf;
@@ -44,7 +52,7 @@ fn main(rt: HostRuntime) -> ExitCode {
     let Ok(words) = words_after_name(alloc, args) else {
         return ExitCode::from(exit_of(&Status::OutOfMemory));
     };
-    let mut shelf = HostShelf::new(&rt);
+    let mut shelf = HostShelf::new(alloc, &rt);
     let status = run(&rt, alloc, &words, &mut shelf);
     ExitCode::from(exit_of(&status))
 }

@@ -24,7 +24,7 @@ use Rattle.gs_top.proofs.Counts.{fell_on, fell_still, stay_on, rose_later}
 
 -- each command's success is one
 pub is_success : (job : Job) (s : Status) → (command_of job).succeeds s → kind_of s ≡ Success
-is_success (Size j) s h = ap kind_of h.1
+is_success (Size j) s h = ap kind_of h.4
 is_success (Check j) s h = ap kind_of h.2
 
 -- a file that was not written is no console

@@ -188,5 +188,5 @@ module _ (laws : Laws) (b : Bytes) where
       decided_then design (λ p. and_then (start_in from p) (λ s. give (sized p s))) b design_decided (λ p m. decided_then (start_in from p) (λ s. give (sized p s)) b (start_in_decided from p) (λ s n. decided_give (sized p s) b))
 
 pub each_job : Laws → EachJobIsDecided
-each_job laws (Size j) files = design_decided laws (inputs_of (Size j) files)
+each_job laws (Size j) files = start_decided laws (inputs_of (Size j) files) j.from
 each_job laws (Check j) files = start_decided laws (inputs_of (Check j) files) j.from

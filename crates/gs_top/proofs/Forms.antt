@@ -2,10 +2,11 @@
 use Rattle.std.proofs.Common.{◌≡◌, ◌≢◌, refl, sym, subst, ℕ, ◌<◌, ◌==◌, ◌&&◌, ◌||◌, not, Bool, true, false, List, [], ◌∷◌, Some, length, map, arith}
 use Rattle.std.specs.List.{list_any}
 use Rattle.std.specs.Str.{bytes_eq}
+use Rattle.std.proofs.lemmas.Bool.Decides.{Decides-eqb}
 use Rattle.std.proofs.lemmas.Slice.Eq.{bytes_eq-Decides}
-use Rattle.gs_top.specs.Job.{are_given, are_names, check_of, check_with, has_check_form, is_check, is_good, output_of, is_size, size_of, size_with, size_options, value_of}
+use Rattle.gs_top.specs.Job.{are_given, are_names, check_of, check_with, has_check_form, has_numbers, is_check, is_good, name_if_given, names_of, output_of, is_size, size_of, size_with, size_options, value_of}
 use Rattle.gs_top.specs.Plan.{AllDiffer}
-use Rattle.gs_top.specs.declared.status.Output.TheVariants.{Sizes, Report}
+use Rattle.gs_top.specs.declared.status.Output.TheVariants.{Sizes, Log, Report}
 use Rattle.gs_top.specs.declared.job.Job.TheVariants.{Size, Check}
 use Rattle.gs_top.specs.declared.job.CheckJob.{CheckJob}
 use Rattle.gs_top.specs.declared.job.SizeJob.{SizeJob}
@@ -55,21 +56,45 @@ front : (a b : Bool) → (a && b) ≡ true → a ≡ true
 front true b h = refl
 front false b h = absurd cc
 
-clash : (b : Bool) → b ≡ true → not (b || false) ≡ true → ⊥
-clash true e h = cc
-clash false e h = cc
+-- a name is among none of those after it
+none_after : (n : List ℕ) (ns : List (List ℕ)) → are_names (n ∷ ns) ≡ true → not (list_any (bytes_eq n) ns) ≡ true
+none_after n ns h =
+    front (not (list_any (bytes_eq n) ns)) (are_names ns) (both (not (length n == 0)) (not (list_any (bytes_eq n) ns) && are_names ns) h)
 
-two_differ : (n m : List ℕ) → are_names (n ∷ m ∷ []) ≡ true → n ≢ m
-two_differ n m h e =
-    let later = both (not (length n == 0)) (not (list_any (bytes_eq n) (m ∷ [])) && are_names (m ∷ [])) h in
-    clash (bytes_eq n m) ((bytes_eq-Decides n m).1 e) (front (not (list_any (bytes_eq n) (m ∷ []))) (are_names (m ∷ [])) later)
+clash : (b c : Bool) → b ≡ true → not (b || c) ≡ true → ⊥
+clash true c e h = cc
+clash false c e h = cc
 
--- the names of two outputs differ
-pub outputs_differ : (j : SizeJob) → is_good (Size j) ≡ true → AllDiffer (output_of (Size j)) (Sizes ∷ Report ∷ [])
+later : (b c : Bool) → not (b || c) ≡ true → not c ≡ true
+later true c h = absurd cc
+later false c h = h
+
+-- a name that is among none of these is not the first of them, nor among the others
+not_first : (n m : List ℕ) (ns : List (List ℕ)) → not (list_any (bytes_eq n) (m ∷ ns)) ≡ true → n ≢ m
+not_first n m ns h e = clash (bytes_eq n m) (list_any (bytes_eq n) ns) ((bytes_eq-Decides n m).1 e) h
+
+not_later : (n m : List ℕ) (ns : List (List ℕ)) → not (list_any (bytes_eq n) (m ∷ ns)) ≡ true → not (list_any (bytes_eq n) ns) ≡ true
+not_later n m ns h = later (bytes_eq n m) (list_any (bytes_eq n) ns) h
+
+-- the names of the three outputs of `size` differ
+pub outputs_differ : (j : SizeJob) → is_good (Size j) ≡ true → AllDiffer (output_of (Size j)) (Sizes ∷ Log ∷ Report ∷ [])
 outputs_differ j h =
-    let three = rest_good j.lib (j.verilog ∷ j.spef ∷ j.sdc ∷ j.sizes ∷ j.report ∷ []) h in
-    let four = rest_good j.verilog (j.spef ∷ j.sdc ∷ j.sizes ∷ j.report ∷ []) three in
-    let five = rest_good j.spef (j.sdc ∷ j.sizes ∷ j.report ∷ []) four in
-    let last = rest_good j.sdc (j.sizes ∷ j.report ∷ []) five in
-    let differ = two_differ j.sizes j.report last in
-    ((λ e. cc), (differ, tt), ((λ e. cc), tt, tt))
+    let from = name_if_given j.from in
+    let names = both (has_numbers (Size j)) (are_names (names_of (Size j))) h in
+    let three = rest_good j.lib (j.verilog ∷ j.spef ∷ j.sdc ∷ j.sizes ∷ j.log ∷ j.report ∷ from) names in
+    let four = rest_good j.verilog (j.spef ∷ j.sdc ∷ j.sizes ∷ j.log ∷ j.report ∷ from) three in
+    let five = rest_good j.spef (j.sdc ∷ j.sizes ∷ j.log ∷ j.report ∷ from) four in
+    let written = rest_good j.sdc (j.sizes ∷ j.log ∷ j.report ∷ from) five in
+    let others = none_after j.sizes (j.log ∷ j.report ∷ from) written in
+    let last = none_after j.log (j.report ∷ from) (rest_good j.sizes (j.log ∷ j.report ∷ from) written) in
+    let sizes_log = not_first j.sizes j.log (j.report ∷ from) others in
+    let sizes_report = not_first j.sizes j.report from (not_later j.sizes j.log (j.report ∷ from) others) in
+    let log_report = not_first j.log j.report from last in
+    ((λ e. cc), (sizes_log, (sizes_report, tt)), ((λ e. cc), (log_report, tt), ((λ e. cc), tt, tt)))
+
+-- a job of `size` has no workers
+pub no_workers : (j : SizeJob) → is_good (Size j) ≡ true → j.workers ≡ 0
+no_workers j h =
+    let numbers = front (has_numbers (Size j)) (are_names (names_of (Size j))) h in
+    let workers = front (j.workers == 0) (j.passes == 0) numbers in
+    (Decides-eqb j.workers 0).0 workers

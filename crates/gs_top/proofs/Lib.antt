@@ -6,6 +6,7 @@ pub mod Linking
 pub mod Naming
 pub mod Planning
 pub mod Readers
+pub mod Recovering
 pub mod Running
 pub mod Stages
 pub mod Storing

@@ -5,6 +5,8 @@ use Rattle.gs_top.specs.Command.{Command, Prepares, check, check_plan, size, siz
 use Rattle.gs_top.specs.Plan.{outputs_in}
 use Rattle.gs_design.specs.declared.design.Design.{Design}
 use Rattle.gs_design.specs.declared.time.NetTime.{NetTime}
+use Rattle.gs_report.specs.declared.run.Log.{Log}
+use Rattle.gs_top.specs.declared.job.SizeJob.{SizeJob}
 use Rattle.gs_top.specs.declared.plan.Plan.{Plan}
 use Rattle.gs_top.specs.declared.status.Input.{Input}
 use Rattle.gs_top.specs.declared.status.Status.{Status}
@@ -33,10 +35,10 @@ module _ {tells : Type 0} {names : Input → List ℕ} {old new : Seen} (c : Com
   pub no_room : {made : c.Made} → Works tells c.work names old new (Ok made) → Prepares tells c names old new (Err OutOfMemory)
   no_room h = record { stay = h.stay; said = h.said; later = h.later; answer = ByMemory refl h.answer.0 }
 
-pub size_allows : (d : Design) (t : List NetTime) (plan : Plan) → plan ≡ size_plan d t → Allowed size plan
-size_allows d t plan is = record {
+pub size_allows : (j : SizeJob) (d : Design) (s : List ℕ) (l : Log) (plan : Plan) → plan ≡ size_plan d s j.workers l → Allowed (size j) plan
+size_allows j d s l plan is = record {
   outputs = ap (λ p. outputs_in p.texts) is;
-  success = (_, ap (λ p. p.success) is);
+  success = (_, _, _, _, ap (λ p. p.success) is);
 }
 
 pub check_allows : (from : Option (List ℕ)) (d : Design) (s : List ℕ) (t : List NetTime) (plan : Plan) → plan ≡ check_plan d s t → Allowed (check from) plan

@@ -2,30 +2,35 @@
 use Rattle.std.specs.Prelude.{◌≡◌, ℕ, ℤ, List, [], ◌∷◌, length, Option, None, Result, Ok, Err}
 use Rattle.gs_design.specs.Parts.{parts_of}
 use Rattle.gs_design.specs.Limits.{violations_of}
-use Rattle.gs_design.specs.Sizes.{leak_of, netlist_sizes}
-use Rattle.gs_design.specs.Timing.{IsTiming}
+use Rattle.gs_design.specs.Sizes.{leak_of}
+use Rattle.gs_design.specs.Timing.{IsTiming, timing_of}
 use Rattle.gs_design.specs.declared.design.Design.{Design}
-use Rattle.gs_design.specs.declared.parts.Parts.{Parts}
 use Rattle.gs_design.specs.declared.time.NetTime.{NetTime}
-use Rattle.gs_report.specs.Report.{report_text}
+use Rattle.gs_move.specs.Entries.{commits_of}
+use Rattle.gs_move.specs.State.{sizes_now}
+use Rattle.gs_move.specs.declared.ended.Ended.{Ended}
+use Rattle.gs_report.specs.Log.{log_text}
+use Rattle.gs_report.specs.Report.{report_text, report_with, run_text}
+use Rattle.gs_report.specs.declared.run.Log.{Log}
 use Rattle.gs_shelf.specs.Faults.{NoneFell, CountsStay}
 use Rattle.gs_shelf.specs.Files.{Files, AllStay}
 use Rattle.gs_sizes.specs.Written.{sizes_text}
 use Rattle.gs_top.specs.Answer.{Seen, IsMade, Stopped, Unfetched}
-use Rattle.gs_top.specs.Design.{design}
 use Rattle.gs_top.specs.Job.{input_of}
 use Rattle.gs_top.specs.Plan.{outputs_in}
+use Rattle.gs_top.specs.Recovery.{IsRecovery, budget_of}
 use Rattle.gs_top.specs.Stage.{Bytes, Stage, bytes_of}
 use Rattle.gs_top.specs.Start.{Sized, start}
 use Rattle.gs_top.specs.declared.job.Job.{Job}
 use Rattle.gs_top.specs.declared.job.Job.TheVariants.{Size, Check}
+use Rattle.gs_top.specs.declared.job.SizeJob.{SizeJob}
 use Rattle.gs_top.specs.declared.plan.Plan.{Plan}
 use Rattle.gs_top.specs.declared.plan.Text.{Text}
 use Rattle.gs_top.specs.declared.status.Input.{Input}
 use Rattle.gs_top.specs.declared.status.Output.{Output}
-use Rattle.gs_top.specs.declared.status.Output.TheVariants.{Sizes, Report}
+use Rattle.gs_top.specs.declared.status.Output.TheVariants.{Sizes, Log as LogFile, Report}
 use Rattle.gs_top.specs.declared.status.Status.{Status}
-use Rattle.gs_top.specs.declared.status.Status.TheVariants.{Written, Checked}
+use Rattle.gs_top.specs.declared.status.Status.TheVariants.{Done, Checked}
 
 pub record Command : Type 1 where
   pub Made : Type 0
@@ -41,11 +46,19 @@ pub record Command : Type 1 where
 abbrev pub text : Output → List ℕ → Text
 text to bytes = record { to = to; bytes = bytes }
 
--- the sizes and the report of a design as its netlist sizes it, at this timing, and how many instances were written
-abbrev pub size_plan : Design → List NetTime → Plan
-size_plan d t = record {
-  texts = text Sizes (sizes_text d (netlist_sizes d)) ∷ text Report (report_text d (netlist_sizes d) t None) ∷ [];
-  success = Written (length d.insts);
+-- of sizes with their timing, to which a run led: the sizes, the run's log, and the report of both
+abbrev pub run_texts : Design → List ℕ → List NetTime → (workers : ℕ) → Log → List Text
+run_texts d s t workers l = text Sizes (sizes_text d s) ∷ text LogFile (log_text d l) ∷ text Report (report_with (run_text l workers) d s t) ∷ []
+
+-- how the run ended, how many limits its sizes do not meet, what they leak, and how many moves were committed
+abbrev pub run_done : Design → List ℕ → List NetTime → Log → Status
+run_done d s t l = Done l.ended (length (violations_of d t)) (leak_of d s) (length (commits_of l.entries))
+
+-- both of the sizes after the commits of a log
+abbrev pub size_plan : Design → (start : List ℕ) → (workers : ℕ) → Log → Plan
+size_plan d start workers l = record {
+  texts = run_texts d (sizes_now start l.entries) (timing_of d (sizes_now start l.entries)) workers l;
+  success = run_done d (sizes_now start l.entries) (timing_of d (sizes_now start l.entries)) l;
 }
 
 -- the report of sizes of a design at this timing, how many limits are not met, and what the sizes leak
@@ -55,13 +68,14 @@ check_plan d s t = record {
   success = Checked (length (violations_of d t)) (leak_of d s);
 }
 
-abbrev pub size : Command
-size = record {
-  Made = Parts;
-  work = design;
-  outputs = Sizes ∷ Report ∷ [];
-  plans = λ parts plan. (d : Design) × (parts_of d ≡ parts) × (t : List NetTime) × IsTiming d (netlist_sizes d) t × (plan ≡ size_plan d t);
-  succeeds = λ s. (instances : ℕ) × (s ≡ Written instances);
+-- what leakage recovery makes of a design and the sizes at the start: its log, and what that leads to
+abbrev pub size : SizeJob → Command
+size j = record {
+  Made = Sized;
+  work = start j.from;
+  outputs = Sizes ∷ LogFile ∷ Report ∷ [];
+  plans = λ m plan. (d : Design) × (parts_of d ≡ m.parts) × (l : Log) × IsRecovery d m.sizes (budget_of j.budget d) j.workers l × (plan ≡ size_plan d m.sizes j.workers l);
+  succeeds = λ s. (ended : Ended) × (violations : ℕ) × (leakage : ℤ) × (commits : ℕ) × (s ≡ Done ended violations leakage commits);
 }
 
 abbrev pub check : Option (List ℕ) → Command
@@ -74,7 +88,7 @@ check from = record {
 }
 
 abbrev pub command_of : Job → Command
-command_of (Size j) = size
+command_of (Size j) = size j
 command_of (Check j) = check j.from
 
 -- the bytes of the files that a job reads

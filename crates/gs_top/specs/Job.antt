@@ -11,11 +11,11 @@ use Rattle.gs_top.specs.declared.read.WordsErr.TheVariants.{Usage, Mem}
 use Rattle.gs_top.specs.declared.status.Input.{Input}
 use Rattle.gs_top.specs.declared.status.Input.TheVariants.{Lib, Verilog, Spef, Sdc, From}
 use Rattle.gs_top.specs.declared.status.Output.{Output}
-use Rattle.gs_top.specs.declared.status.Output.TheVariants.{Sizes, Report, Console}
+use Rattle.gs_top.specs.declared.status.Output.TheVariants.{Sizes, Log, Report, Console}
 
 -- the options of `size`, in the order in which its words give them
 abbrev pub size_options : List (List ℕ)
-size_options = codes "--lib" ∷ codes "--verilog" ∷ codes "--spef" ∷ codes "--sdc" ∷ codes "--sizes" ∷ codes "--report" ∷ []
+size_options = codes "--lib" ∷ codes "--verilog" ∷ codes "--spef" ∷ codes "--sdc" ∷ codes "--sizes" ∷ codes "--log" ∷ codes "--report" ∷ []
 
 -- the options of `check`, after which `--from` may stand
 abbrev pub check_options : List (List ℕ)
@@ -32,6 +32,7 @@ abbrev pub value_of : (option : List ℕ) → (words : List (List ℕ)) → List
 value_of option (w ∷ value ∷ ws) = if bytes_eq w option then value else value_of option ws
 value_of option _ = []
 
+-- from the sizes of the netlist, without workers, without passes, and with as many entries as any run needs
 abbrev pub size_with : List (List ℕ) → SizeJob
 size_with words = record {
   lib = value_of (codes "--lib") words;
@@ -39,7 +40,12 @@ size_with words = record {
   spef = value_of (codes "--spef") words;
   sdc = value_of (codes "--sdc") words;
   sizes = value_of (codes "--sizes") words;
+  log = value_of (codes "--log") words;
   report = value_of (codes "--report") words;
+  from = None;
+  workers = 0;
+  passes = 0;
+  budget = None;
 }
 
 -- the words after `check` name sizes to start from
@@ -76,12 +82,17 @@ name_if_given (Some name) = name ∷ []
 
 -- the names of a job's files
 abbrev pub names_of : Job → List (List ℕ)
-names_of (Size j) = j.lib ∷ j.verilog ∷ j.spef ∷ j.sdc ∷ j.sizes ∷ j.report ∷ []
+names_of (Size j) = j.lib ∷ j.verilog ∷ j.spef ∷ j.sdc ∷ j.sizes ∷ j.log ∷ j.report ∷ name_if_given j.from
 names_of (Check j) = j.lib ∷ j.verilog ∷ j.spef ∷ j.sdc ∷ j.report ∷ name_if_given j.from
+
+-- its numbers are ones that stand yet: no workers and no passes
+abbrev pub has_numbers : Job → Bool
+has_numbers (Size j) = (j.workers == 0) && (j.passes == 0)
+has_numbers (Check j) = true
 
 -- the condition of a job
 abbrev pub is_good : Job → Bool
-is_good job = are_names (names_of job)
+is_good job = has_numbers job && are_names (names_of job)
 
 -- the words after the command `size` make a job
 abbrev pub is_size : List (List ℕ) → Bool
@@ -113,7 +124,7 @@ input_of (Size j) Lib = j.lib
 input_of (Size j) Verilog = j.verilog
 input_of (Size j) Spef = j.spef
 input_of (Size j) Sdc = j.sdc
-input_of (Size j) From = []
+input_of (Size j) From = name_or_none j.from
 input_of (Check j) Lib = j.lib
 input_of (Check j) Verilog = j.verilog
 input_of (Check j) Spef = j.spef
@@ -122,6 +133,7 @@ input_of (Check j) From = name_or_none j.from
 
 abbrev pub output_of : Job → Output → List ℕ
 output_of (Size j) Sizes = j.sizes
+output_of (Size j) Log = j.log
 output_of (Size j) Report = j.report
 output_of (Size j) Console = []
 output_of (Check j) Report = j.report

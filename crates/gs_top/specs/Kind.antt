@@ -7,7 +7,7 @@ use Rattle.gs_top.specs.declared.status.Input.{Input}
 use Rattle.gs_top.specs.declared.status.Output.{Output}
 use Rattle.gs_top.specs.declared.status.Output.TheVariants.{Console}
 use Rattle.gs_top.specs.declared.status.Status.{Status}
-use Rattle.gs_top.specs.declared.status.Status.TheVariants.{Written, Checked, Usage, ReadFault, TooLarge, BadText, BadLibrary, BadDesign, WriteFault, OutOfMemory}
+use Rattle.gs_top.specs.declared.status.Status.TheVariants.{Done, Checked, Usage, ReadFault, TooLarge, BadText, BadLibrary, BadDesign, WriteFault, OutOfMemory}
 
 pub data Kind : Type 0 where
   Success : Kind
@@ -24,7 +24,7 @@ pub data Kind : Type 0 where
   NoMemory : Kind
 
 abbrev pub kind_of : Status → Kind
-kind_of (Written instances) = Success
+kind_of (Done ended violations leakage commits) = Success
 kind_of (Checked violations leakage) = Success
 kind_of Usage = NoJob
 kind_of (ReadFault file) = Unread file

@@ -32,7 +32,7 @@ EachJobIsDecided = (job : Job) (files : Files) → IsDecided (command_of job).wo
 abbrev pub netlist_line : RawInst → List ℕ
 netlist_line i = i.name ++ 32 ∷ i.cell ++ 10 ∷ []
 
--- the sizes that are written of a linked design are the netlist's: the name of each instance, in order, with the cell that it names
+-- the sizes of the netlist, written of a linked design, are the name of each instance, in order, with the cell that the netlist names
 abbrev pub EachSizeIsTheNetlists : Type 0
 EachSizeIsTheNetlists =
     (c : Circuit) (l : Library) (w : List Wire) (k : Terms) (d : Design) → Linked c l w k (parts_of d) → sizes_text d (netlist_sizes d) ≡ flat_map netlist_line c.insts

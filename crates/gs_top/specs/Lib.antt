@@ -8,6 +8,7 @@ pub mod Kind
 pub mod Law
 pub mod Line
 pub mod Plan
+pub mod Recovery
 pub mod Refusal
 pub mod Run
 pub mod Stage

@@ -1,8 +1,10 @@
 -- The line that is said of each status.
-use Rattle.std.specs.Prelude.{◌≡◌, ◌≢◌, ℕ, List, [], ◌++◌, codes, decimal}
+use Rattle.std.specs.Prelude.{◌≡◌, ◌≢◌, ℕ, ℤ, List, [], ◌++◌, codes, decimal}
 use Rattle.gs_lib.specs.declared.error.LibErr.{LibErr}
 use Rattle.gs_lib.specs.declared.error.LibErr.TheVariants as lib
+use Rattle.gs_move.specs.declared.ended.Ended.{Ended as RunEnd}
 use Rattle.gs_quantity.specs.Print.{micro_text}
+use Rattle.gs_report.specs.Log.{ended_word}
 use Rattle.gs_shelf.specs.Faults.{CountsStay, NoneFell, Rose}
 use Rattle.gs_shelf.specs.Files.{AllStay, GrewByPart}
 use Rattle.gs_shelf.specs.declared.calls.Op.TheVariants.{Say}
@@ -13,11 +15,11 @@ use Rattle.gs_top.specs.declared.status.Input.TheVariants as input
 use Rattle.gs_survey.specs.declared.error.LinkErr.{LinkErr}
 use Rattle.gs_survey.specs.declared.error.LinkErr.TheVariants as link
 use Rattle.gs_top.specs.declared.status.Output.{Output}
-use Rattle.gs_top.specs.declared.status.Output.TheVariants.{Sizes, Report, Console}
+use Rattle.gs_top.specs.declared.status.Output.TheVariants.{Sizes, Log, Report, Console}
 use Rattle.gs_top.specs.declared.status.TextWhy.{TextWhy}
 use Rattle.gs_top.specs.declared.status.TextWhy.TheVariants.{OpenString, OpenComment, TooDeep, BadPiece, TwoNames, NoEnd, BadLine, Distributed, UnknownIndex, TwoNets, NotBuilt, TwoClocks, TwoValues, NoClock, Unknown, Twice, WrongCell, Absent}
 use Rattle.gs_top.specs.declared.status.Status.{Status}
-use Rattle.gs_top.specs.declared.status.Status.TheVariants.{Written, Checked, Usage, ReadFault, TooLarge, BadText, BadLibrary, BadDesign, WriteFault, OutOfMemory}
+use Rattle.gs_top.specs.declared.status.Status.TheVariants.{Done, Checked, Usage, ReadFault, TooLarge, BadText, BadLibrary, BadDesign, WriteFault, OutOfMemory}
 
 abbrev pub input_name : Input → List ℕ
 input_name input.Lib = codes "library"
@@ -73,12 +75,19 @@ link_name link.Mem = codes "mem"
 -- no line says that the console failed
 abbrev pub write_line : Output → List ℕ
 write_line Sizes = codes "cannot write sizes\n"
+write_line Log = codes "cannot write log\n"
 write_line Report = codes "cannot write report\n"
 write_line Console = []
 
+-- how the run ended, what its sizes leak, how many limits are not met, and how many moves were committed
+abbrev pub done_line : RunEnd → (violations : ℕ) → (leakage : ℤ) → (commits : ℕ) → List ℕ
+done_line ended violations leakage commits =
+    codes "done " ++ ended_word ended ++ codes " leakage " ++ micro_text leakage ++ codes " violations " ++ decimal violations
+    ++ codes " commits " ++ decimal commits ++ codes "\n"
+
 -- each status but want of memory and a fault of the console has one line
 abbrev pub line_of : Status → List ℕ
-line_of (Written instances) = codes "written " ++ decimal instances ++ codes "\n"
+line_of (Done ended violations leakage commits) = done_line ended violations leakage commits
 line_of (Checked violations leakage) =
     codes "checked leakage " ++ micro_text leakage ++ codes " violations " ++ decimal violations ++ codes "\n"
 line_of Usage = codes "usage: gate-sizer size, check, audit or gen, with options\n"

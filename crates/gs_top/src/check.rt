@@ -52,7 +52,7 @@ pub(crate) fn prepare_check<H: Shelf>(
         Ok(design) => design,
         Err(status) => return Err(status),
     };
-    let sizes = match load_start(alloc, shelf, job, &design) {
+    let sizes = match load_start(alloc, shelf, job, &job.from, &design) {
         Ok(sizes) => sizes,
         Err(status) => return Err(status),
     };

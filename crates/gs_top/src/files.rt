@@ -49,13 +49,14 @@ impl JobFiles for SizeJob {
             Input::Verilog => self.verilog.as_str(),
             Input::Spef => self.spef.as_str(),
             Input::Sdc => self.sdc.as_str(),
-            Input::From => "",
+            Input::From => text_or_none(&self.from),
         }
     }
 
     fn output(&self, to: Output) -> &str {
         match to {
             Output::Sizes => self.sizes.as_str(),
+            Output::Log => self.log.as_str(),
             Output::Report => self.report.as_str(),
             Output::Console => "",
         }
@@ -83,7 +84,7 @@ impl JobFiles for CheckJob {
     fn output(&self, to: Output) -> &str {
         match to {
             Output::Report => self.report.as_str(),
-            Output::Sizes | Output::Console => "",
+            Output::Sizes | Output::Log | Output::Console => "",
         }
     }
 }

@@ -5,14 +5,12 @@ ghost use Rattle.gs_design.specs.Sizes.{FitSizes, netlist_sizes};
 ghost use Rattle.gs_sizes.specs.Sizes.{IsSizes};
 ghost use Rattle.gs_text.specs.Bytes.{max_text};
 ghost use Rattle.gs_top.specs.Answer.{Settles, Works, seen};
-ghost use Rattle.gs_top.specs.Job.{input_of};
 ghost use Rattle.gs_top.specs.Refusal.{sizes_status};
 ghost use Rattle.gs_top.specs.Start.{SizesCause, from_text, start_in};
-ghost use Rattle.gs_top.specs.declared.job.Job.{Job};
 
 use crate::fetch::fetch_file;
 use crate::files::JobFiles;
-use crate::job::CheckJob;
+use crate::name::Name;
 use crate::status::{Input, Status, TextWhy};
 use gs_design::{Design, Sizes};
 use gs_shelf::Shelf;
@@ -76,17 +74,18 @@ fn netlist_start(alloc: Global, design: &Design) -> Result<Sizes, Status>
     }
 }
 
-/// The sizes that a job checks.
-pub(crate) fn load_start<H: Shelf>(
+/// The sizes of a job's file, where it names one, or else those of the netlist.
+pub(crate) fn load_start<J: JobFiles, H: Shelf>(
     alloc: Global,
     shelf: &mut H,
-    job: &CheckJob,
+    job: &J,
+    from: &Option<Name>,
     design: &Design,
 ) -> Result<Sizes, Status>
-    ensures work { Works H.tells (start_in job.now.from (parts_of design.now)) (input_of (Job.Check job.now)) (seen (H.files shelf.old) (H.said shelf.old) (H.faults shelf.old)) (seen (H.files shelf.new) (H.said shelf.new) (H.faults shelf.new)) result }
+    ensures work { Works H.tells (start_in from.now (parts_of design.now)) (J.inputs job.now) (seen (H.files shelf.old) (H.said shelf.old) (H.faults shelf.old)) (seen (H.files shelf.new) (H.said shelf.new) (H.faults shelf.new)) result }
     ensures fit { IfOk result (FitSizes design.now) }
 {
-    match &job.from {
+    match from {
         Some(_) => load_sizes(alloc, shelf, job, design),
         None => netlist_start(alloc, design),
     }

@@ -1,8 +1,11 @@
 //! The job that a command's words make.
+ghost use Rattle.std.specs.Prelude.{◌≡◌};
+ghost use Rattle.gs_top.specs.Job.{is_good};
 
 use crate::name::Name;
+use crate::options::are_names;
 
-/// The files that `size` reads and those that it writes.
+/// The files that `size` reads and those that it writes, and how it is to size.
 #[derive(Debug, Drop)]
 pub struct SizeJob {
     pub lib: Name,
@@ -10,7 +13,38 @@ pub struct SizeJob {
     pub spef: Name,
     pub sdc: Name,
     pub sizes: Name,
+    pub log: Name,
     pub report: Name,
+    /// The file of the sizes at the start. Without one they are those of the netlist.
+    pub from: Option<Name>,
+    /// How many workers share the work; 0, as long as there are none.
+    pub workers: u32,
+    /// How many passes choose the sizes at the start; 0, as long as there are none.
+    pub passes: u32,
+    /// How many entries the log may have. Without a number there are as many as any run needs.
+    pub budget: Option<u64>,
+}
+
+impl SizeJob {
+    /// Whether it is a job that `run_size_alone` takes: no name is empty, all differ, and its numbers are ones that stand yet.
+    pub fn is_good(&self) -> bool
+        ensures { result ≡ is_good (Job.Size self.now) }
+    {
+        if self.workers != 0 || self.passes != 0 {
+            return false;
+        }
+        let lib = self.lib.as_str();
+        let verilog = self.verilog.as_str();
+        let spef = self.spef.as_str();
+        let sdc = self.sdc.as_str();
+        let sizes = self.sizes.as_str();
+        let log = self.log.as_str();
+        let report = self.report.as_str();
+        match &self.from {
+            None => are_names(&[lib, verilog, spef, sdc, sizes, log, report]),
+            Some(from) => are_names(&[lib, verilog, spef, sdc, sizes, log, report, from.as_str()]),
+        }
+    }
 }
 
 /// The files that `check` reads, and the report that it writes.

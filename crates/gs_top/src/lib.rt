@@ -35,6 +35,8 @@ mod fetch;
 mod files;
 mod from;
 mod job;
+#[cfg(test)]
+mod job_tests;
 mod law;
 mod library;
 #[cfg(test)]
@@ -47,9 +49,12 @@ mod options;
 mod plan;
 mod program;
 mod read;
+mod recovery;
 #[cfg(test)]
 mod samples;
 mod size;
+#[cfg(test)]
+mod size_tests;
 mod status;
 mod store;
 #[cfg(test)]
@@ -60,7 +65,7 @@ mod words;
 pub use job::{CheckJob, Job, SizeJob};
 pub use law::{each_job_is_decided, each_size_is_the_netlists};
 pub use name::Name;
-pub use program::{run, run_check};
+pub use program::{run, run_check, run_size_alone};
 pub use read::{WordsErr, read_words};
 pub use status::{Input, Output, Status, TextWhy, exit_of};
 pub use words::Words;

@@ -25,7 +25,7 @@ fn shelf_of(alloc: Global, library: &[u8], netlist: &[u8]) -> Result<NeverFails,
     Ok(NeverFails { files, said })
 }
 
-/// Whether a run on these bytes ends well with these texts.
+/// Whether a run on these bytes ends with these texts and with a limit that isn't met.
 fn writes(
     alloc: Global,
     library: &[u8],
@@ -37,7 +37,7 @@ fn writes(
     let status = run(&(), alloc, &size_words(alloc)?, &mut shelf);
     let same_sizes = shelf.files.get(b"n.sizes") == Some(sizes);
     let same_report = shelf.files.get(b"n.rpt") == Some(report);
-    Ok(exit_of(&status) == 0 && same_sizes && same_report)
+    Ok(exit_of(&status) == 1 && same_sizes && same_report)
 }
 
 /// A text with a name of 300 bytes between two others.
@@ -59,7 +59,7 @@ fn names_of_300_bytes_and_a_unit_of_16(rt: HostRuntime) -> Result<(), Fail> {
     let mut sizes = around_name(alloc, b"", b" ")?;
     sizes.extend_from_slice(around_name(alloc, b"", b"\n")?.as_slice())?;
     let report =
-        b"gate-sizing-report 1\nleakage 1.000000 1234567890abcdef\nviolations 1\nsetup z held 4.000000 bound 1.000000\n";
+        b"gate-sizing-report 1\nended settled\nentries 0\nbudget 1\ncommits 0\nworker 0 commits 0\nleakage 1.000000 1234567890abcdef\nviolations 1\nsetup z held 4.000000 bound 1.000000\n";
     assert!(rt;
         writes(
             alloc,
@@ -99,7 +99,13 @@ fn says(alloc: Global, library: &[u8], line: &str) -> Result<bool, Fail> {
 fn a_library_of_too_deep_groups(rt: HostRuntime) -> Result<(), Fail> {
     let alloc = rt.alloc();
     let most = nested(alloc, 63)?;
-    assert!(rt; says(alloc, most.as_slice(), "written 0\n")?);
+    assert!(rt;
+        says(
+            alloc,
+            most.as_slice(),
+            "done settled leakage 0.000000 violations 0 commits 0\n"
+        )?
+    );
     let more = nested(alloc, 64)?;
     assert!(rt; says(alloc, more.as_slice(), "bad library toodeep at 271\n")?);
     Ok(())

@@ -1,11 +1,13 @@
 //! The line that is said of a status.
 ghost use Rattle.std.specs.Prelude.{◌≡◌, ◌++◌, IfOk, OnOk, codes, decimal};
 ghost use Rattle.gs_quantity.specs.Print.{micro_text};
-ghost use Rattle.gs_top.specs.Line.{input_name, lib_name, line_of, link_name, why_name, write_line};
+ghost use Rattle.gs_report.specs.Log.{ended_word};
+ghost use Rattle.gs_top.specs.Line.{done_line, input_name, lib_name, line_of, link_name, why_name, write_line};
 
 use crate::status::{Input, Output, Status, TextWhy};
 use gs_lib::LibErr;
 use gs_link::LinkErr;
+use gs_move::Ended;
 use gs_quantity::{Mem, Micro, print_micro};
 use itoa::Buffer;
 use std::alloc::{AllocError, Global};
@@ -89,19 +91,55 @@ fn write_line(file: Output) -> &'static str
 {
     match file {
         Output::Sizes => "cannot write sizes\n",
+        Output::Log => "cannot write log\n",
         Output::Report => "cannot write report\n",
         Output::Console => "",
     }
 }
 
-/// `written` and how many.
-fn written_line(alloc: Global, instances: u32) -> Result<Vec<u8>, AllocError>
-    ensures { IfOk result (λ v. v.items ≡ codes "written " ++ decimal instances ++ codes "\n") }
+fn ended_word(ended: Ended) -> &'static str
+    ensures { result.now ≡ ended_word ended }
+{
+    match ended {
+        Ended::Settled => "settled",
+        Ended::Spent => "spent",
+    }
+}
+
+/// A word, with a space on either side, and a count.
+fn add_count(line: &mut Vec<u8>, word: &str, count: u64) -> Result<(), AllocError>
+    ensures { OnOk result (line.new.items ≡ line.old.items ++ word.now ++ decimal count) }
 {
     let mut digits = Buffer::new();
-    let mut line = Vec::from_slice(alloc, b"written ")?;
-    line.extend_from_slice(digits.format(instances).as_bytes())?;
-    line.push(b'\n')?;
+    line.extend_from_slice(word.as_bytes())?;
+    line.extend_from_slice(digits.format(count).as_bytes())?;
+    Ok(())
+}
+
+/// `leakage` and the amount, with a space before each.
+fn add_leakage(alloc: Global, line: &mut Vec<u8>, leakage: Micro) -> Result<(), Mem>
+    ensures { OnOk result (line.new.items ≡ line.old.items ++ codes " leakage " ++ micro_text leakage) }
+{
+    line.extend_from_slice(b" leakage ")?;
+    print_micro(alloc, leakage, line)
+}
+
+/// `done`, how the run ended, the leakage, how many limits aren't met, and how many commits there are.
+fn done_line(
+    alloc: Global,
+    ended: Ended,
+    violations: u64,
+    leakage: Micro,
+    commits: u64,
+) -> Result<Vec<u8>, Mem>
+    ensures { IfOk result (λ v. v.items ≡ done_line ended violations leakage commits) }
+{
+    let mut line = Vec::from_slice(alloc, b"done ")?;
+    line.extend_from_slice(ended_word(ended).as_bytes())?;
+    add_leakage(alloc, &mut line, leakage)?;
+    add_count(&mut line, " violations ", violations)?;
+    add_count(&mut line, " commits ", commits)?;
+    line.extend_from_slice(b"\n")?;
     Ok(line)
 }
 
@@ -148,7 +186,12 @@ pub(crate) fn line_of(alloc: Global, status: &Status) -> Result<Vec<u8>, Mem>
     ensures { IfOk result (λ v. v.items ≡ line_of status.now) }
 {
     let line = match status {
-        Status::Written { instances } => written_line(alloc, *instances)?,
+        Status::Done {
+            ended,
+            violations,
+            leakage,
+            commits,
+        } => done_line(alloc, *ended, *violations, *leakage, *commits)?,
         Status::Checked {
             violations,
             leakage,

@@ -25,7 +25,7 @@ fn unsaid(status: Status) -> Status
     ensures { result ≡ unsaid status }
 {
     match status {
-        Status::Written { .. } | Status::Checked { .. } => Status::WriteFault {
+        Status::Done { .. } | Status::Checked { .. } => Status::WriteFault {
             file: Output::Console,
         },
         Status::Usage
@@ -68,11 +68,11 @@ fn say<H: Shelf>(alloc: Global, shelf: &mut H, status: Status) -> Status
 }
 
 /// Does the work of `size`, and says nothing.
-fn act_size<H: Shelf>(alloc: Global, shelf: &mut H, job: &SizeJob) -> Status
+fn act_size<R, H: Shelf>(rt: &R, alloc: Global, shelf: &mut H, job: &SizeJob) -> Status
     requires { is_good (Job.Size job.now) ≡ true }
     ensures { Acts H.tells (Job.Size job.now) (seen (H.files shelf.old) (H.said shelf.old) (H.faults shelf.old)) (seen (H.files shelf.new) (H.said shelf.new) (H.faults shelf.new)) result }
 {
-    match prepare_size(alloc, shelf, job) {
+    match prepare_size(rt, alloc, shelf, job) {
         Ok(plan) => store_plan(alloc, shelf, job, plan),
         Err(status) => status,
     }
@@ -89,12 +89,31 @@ fn act_check<H: Shelf>(alloc: Global, shelf: &mut H, job: &CheckJob) -> Status
     }
 }
 
-/// Does what `size` is to do, and says the line of its status.
-fn run_size<H: Shelf>(alloc: Global, shelf: &mut H, job: &SizeJob) -> Status
+/// Runs `size` without workers: reads the library, the netlist, the wires and the constraints, links them, and recovers leakage from the
+/// sizes at the start, which are the netlist's where the job names no file of them. It stores the sizes, the log and the report and says
+/// `done`, how the run ended, the leakage, how many limits the sizes don't meet and how many moves were committed. The first refusal ends
+/// the work. It waits for nobody.
+///
+/// What the log says is `IsRecovery` (`specs/Recovery.antt`), and what the sizes and the report are of it `size_plan` (`specs/Command.antt`).
+pub fn run_size_alone<R, H: Shelf>(rt: &R, alloc: Global, job: &SizeJob, shelf: &mut H) -> Status
+    // No name is empty, and all differ; there are no workers and no passes.
     requires { is_good (Job.Size job.now) ≡ true }
-    ensures { Ran H.tells (Some (Job.Size job.now)) (seen (H.files shelf.old) (H.said shelf.old) (H.faults shelf.old)) (seen (H.files shelf.new) (H.said shelf.new) (H.faults shelf.new)) result }
+    // What the files hold after each status, as far as the shelf tells; and which files stay, on every shelf.
+    ensures leaves { JobLeaves H.tells (Job.Size job.now) (H.files shelf.old) (H.files shelf.new) result }
+    // What stands behind each status, on every shelf.
+    ensures cause { JobCauses H.tells (Job.Size job.now) (H.files shelf.old) (H.files shelf.new) (H.faults shelf.old) (H.faults shelf.new) result }
+    // What was said with each status, on a shelf that tells.
+    ensures said { H.tells → JobSays H.tells (Job.Size job.now) (H.files shelf.old) (H.files shelf.new) (H.faults shelf.old) (H.faults shelf.new) (H.said shelf.old) (H.said shelf.new) result }
+    // After want of memory nothing was said, on every shelf.
+    ensures silent { result ≡ Status.OutOfMemory → H.said shelf.new ≡ H.said shelf.old }
+    // Files that make a design and sizes of it, and no fault: `Done`, or want of memory.
+    ensures complete { H.tells → IsAccepted (Job.Size job.now) (H.files shelf.old) → NoneRose (H.faults shelf.old) (H.faults shelf.new) → IsDone (Job.Size job.now) result }
+    // The first refusal that the bytes decide is the answer, but for a fault of reading or want of memory.
+    ensures exact { H.tells → (refusal : Status) → FirstRefusalOf (Job.Size job.now) (H.files shelf.old) refusal → AnswersRefusal refusal result }
+    // No count of faults falls.
+    ensures later { NoneFell (H.faults shelf.old) (H.faults shelf.new) }
 {
-    let status = act_size(alloc, shelf, job);
+    let status = act_size(rt, alloc, shelf, job);
     say(alloc, shelf, status)
 }
 
@@ -129,7 +148,7 @@ fn run_job<R, H: Shelf>(rt: &R, alloc: Global, job: &Job, shelf: &mut H) -> Stat
     ensures { Ran H.tells (Some job.now) (seen (H.files shelf.old) (H.said shelf.old) (H.faults shelf.old)) (seen (H.files shelf.new) (H.said shelf.new) (H.faults shelf.new)) result }
 {
     match job {
-        Job::Size(job) => run_size(alloc, shelf, job),
+        Job::Size(job) => run_size_alone(rt, alloc, job, shelf),
         Job::Check(job) => run_check(rt, alloc, job, shelf),
     }
 }

@@ -29,7 +29,12 @@ fn copy_names(alloc: Global, words: &[String]) -> Result<SizeJob, Mem>
         spef: Name::copy_of(alloc, value_of(words, "--spef"))?,
         sdc: Name::copy_of(alloc, value_of(words, "--sdc"))?,
         sizes: Name::copy_of(alloc, value_of(words, "--sizes"))?,
+        log: Name::copy_of(alloc, value_of(words, "--log"))?,
         report: Name::copy_of(alloc, value_of(words, "--report"))?,
+        from: None,
+        workers: 0,
+        passes: 0,
+        budget: None,
     })
 }
 
@@ -43,6 +48,7 @@ fn has_names(words: &[String]) -> bool
         value_of(words, "--spef"),
         value_of(words, "--sdc"),
         value_of(words, "--sizes"),
+        value_of(words, "--log"),
         value_of(words, "--report"),
     ])
 }
@@ -58,6 +64,7 @@ fn is_size(words: &[String]) -> bool
             "--spef",
             "--sdc",
             "--sizes",
+            "--log",
             "--report",
         ],
         words,

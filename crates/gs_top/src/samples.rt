@@ -48,9 +48,15 @@ rise_transition (t) { values (\"2, 12\"); } fall_transition (t) { values (\"2, 1
 pub(crate) const CHAIN: &str =
     "module c (x, z); input x; output z; I2 g1 (.a(x), .o(n1)); I2 g2 (.a(n1), .o(z)); endmodule";
 
-pub(crate) const CHAIN_SIZES: &str = "g1 I2\ng2 I2\n";
+/// What recovery makes of the chain: both inverters take the cell that leaks less.
+pub(crate) const CHAIN_SIZES: &str = "g1 I1\ng2 I1\n";
 
-pub(crate) const CHAIN_REPORT: &str = "gate-sizing-report 1\nleakage 6.000000 1uW\nviolations 0\n";
+pub(crate) const CHAIN_LOG: &str = "gate-sizing-log 1\nc 0 g1 I1\nc 0 g2 I1\nend settled 2 9\n";
+
+pub(crate) const CHAIN_REPORT: &str =
+    "gate-sizing-report 1\nended settled\nentries 2\nbudget 9\ncommits 2\nworker 0 commits 2\nleakage 2.000000 1uW\nviolations 0\n";
+
+pub(crate) const CHAIN_DONE: &str = "done settled leakage 2.000000 violations 0 commits 2\n";
 
 /// A text of no wires.
 pub(crate) const NO_WIRES: &str = "*C_UNIT 1 FF\n";
@@ -113,13 +119,13 @@ pub(crate) fn form_of(
     alloc: Global,
     command: &str,
     inputs: [&str; 4],
-    outputs: [&str; 2],
+    outputs: [&str; 3],
 ) -> Result<Words, Mem> {
     let [lib, verilog, spef, sdc] = inputs;
-    let [sizes, report] = outputs;
+    let [sizes, log, report] = outputs;
     let mut words = words_of(alloc, &[command, "--lib", lib, "--verilog", verilog])?;
     for text in [
-        "--spef", spef, "--sdc", sdc, "--sizes", sizes, "--report", report,
+        "--spef", spef, "--sdc", sdc, "--sizes", sizes, "--log", log, "--report", report,
     ] {
         words.add(text)?;
     }
@@ -131,7 +137,7 @@ pub(crate) fn size_words(alloc: Global) -> Result<Words, Mem> {
         alloc,
         "size",
         ["n.lib", "n.v", "n.spef", "n.sdc"],
-        ["n.sizes", "n.rpt"],
+        ["n.sizes", "n.log", "n.rpt"],
     )
 }
 
@@ -148,7 +154,7 @@ pub(crate) fn check_words(alloc: Global, with_from: bool) -> Result<Words, Mem> 
     Ok(words)
 }
 
-/// These four files, and two from before.
+/// These four files, and three from before.
 pub(crate) fn files_with(alloc: Global, texts: Texts) -> Result<FileList, AllocError> {
     let mut files = FileList::new(alloc);
     files.put(alloc, b"n.lib", texts.library.as_bytes())?;
@@ -156,6 +162,7 @@ pub(crate) fn files_with(alloc: Global, texts: Texts) -> Result<FileList, AllocE
     files.put(alloc, b"n.spef", texts.spef.as_bytes())?;
     files.put(alloc, b"n.sdc", texts.sdc.as_bytes())?;
     files.put(alloc, b"n.sizes", b"before")?;
+    files.put(alloc, b"n.log", b"older")?;
     files.put(alloc, b"n.rpt", b"earlier")?;
     Ok(files)
 }

@@ -4,6 +4,7 @@ ghost use Rattle.gs_top.specs.Exit.{exit_of};
 
 use gs_lib::LibErr;
 use gs_link::LinkErr;
+use gs_move::Ended;
 use gs_quantity::Micro;
 
 /// A file that a command reads.
@@ -26,6 +27,8 @@ pub enum Input {
 pub enum Output {
     /// The file of sizes.
     Sizes,
+    /// The log of the run.
+    Log,
     /// The report.
     Report,
     /// The status line.
@@ -76,9 +79,13 @@ pub enum TextWhy {
 /// How a command ended.
 #[derive(Debug, Drop)]
 pub enum Status {
-    /// The sizes of so many instances were written, and the report.
-    Written {
-        instances: u32,
+    /// The design was sized; the sizes, the log and the report were written: how the run ended, how many limits the sizes don't meet, what
+    /// they leak in millionths of the library's unit, and how many moves were committed.
+    Done {
+        ended: Ended,
+        violations: u64,
+        leakage: Micro,
+        commits: u64,
     },
     /// The sizes were timed and judged, and the report was written: how many limits aren't met, and the leakage in millionths of the
     /// library's unit.
@@ -120,8 +127,8 @@ pub fn exit_of(status: &Status) -> u8
     ensures { result ≡ exit_of status.now }
 {
     match status {
-        Status::Written { .. } | Status::Checked { violations: 0, .. } => 0,
-        Status::Checked { .. } => 1,
+        Status::Done { violations: 0, .. } | Status::Checked { violations: 0, .. } => 0,
+        Status::Done { .. } | Status::Checked { .. } => 1,
         Status::Usage => 2,
         Status::BadText { .. }
         | Status::TooLarge { .. }

@@ -4,13 +4,15 @@ ghost use Rattle.std.specs.Prelude.{◌≤◌};
 
 use crate::program::run;
 use crate::samples::{
-    BARE_CLOCK, CHAIN, CHAIN_REPORT, CHAIN_SIZES, CHAIN_TEXTS, CLOCK, PATH, PATH_LIMITS,
-    PATH_WIRES, ROWS, Texts, files_with, form_of, size_words, words_of,
+    BARE_CLOCK, CHAIN, CHAIN_DONE, CHAIN_LOG, CHAIN_REPORT, CHAIN_SIZES, CHAIN_TEXTS, ROWS, Texts,
+    files_with, form_of, size_words, words_of,
 };
 use crate::status::{Input, Output, Status, TextWhy, exit_of};
 use crate::words::Words;
 use gs_lib::LibErr;
 use gs_link::LinkErr;
+use gs_move::Ended;
+use gs_quantity::Micro;
 use gs_shelf::{Bytes, Failures, FileList, MemShelf, NeverFails, Numbers};
 use std::alloc::{AllocError, Global};
 use std::test::Fail;
@@ -18,11 +20,6 @@ use std::test::Fail;
 /// An inverter alone, without a unit of leakage.
 const SMALL_CELL: &str = "library (l) { time_unit : \"1ps\"; capacitive_load_unit (1, ff);
 cell (I1) { cell_leakage_power : 1;
-pin (a) { direction : input; capacitance : 1; } pin (o) { direction : output; function : \"!a\"; timing () { related_pin : \"a\"; timing_sense : negative_unate; cell_rise (scalar) { values (\"4\"); } cell_fall (scalar) { values (\"4\"); } rise_transition (scalar) { values (\"2\"); } fall_transition (scalar) { values (\"2\"); } } } } }";
-
-/// A leakage of less than a millionth is rounded.
-const LITTLE: &str = "library (l) { time_unit : \"1ps\"; capacitive_load_unit (1, ff);
-cell (I2) { cell_leakage_power : 0.0000005;
 pin (a) { direction : input; capacitance : 1; } pin (o) { direction : output; function : \"!a\"; timing () { related_pin : \"a\"; timing_sense : negative_unate; cell_rise (scalar) { values (\"4\"); } cell_fall (scalar) { values (\"4\"); } rise_transition (scalar) { values (\"2\"); } fall_transition (scalar) { values (\"2\"); } } } } }";
 
 /// An inverter without an arc.
@@ -57,12 +54,6 @@ rise_transition (scalar) { values (\"2\"); } fall_transition (scalar) { values (
 const LATCH: &str = "module l (s, r, q1); input s, r; output q1;
 N1 g1 (.a(s), .b(q2), .o(q1)); N1 g2 (.a(r), .b(q1), .o(q2)); endmodule";
 
-/// The same with a flip-flop in place of the second gate.
-const CUT_LATCH: &str = "module l (s, r, q1); input s, r; output q1;
-N1 g1 (.a(s), .b(q2), .o(q1)); F1 g2 (.ck(s), .d(q1), .q(q2)); endmodule";
-
-const EMPTY: &str = "module e (a); input a; endmodule";
-
 fn shelf_with(
     alloc: Global,
     files: FileList,
@@ -81,34 +72,15 @@ fn shelf_with(
     })
 }
 
-/// Files that a run reads, and what stands after it.
+/// Files that are refused, and what is said.
 #[derive(Clone, Copy)]
 struct Row {
     texts: Texts,
-    exit: u8,
     said: &'static str,
-    sizes: &'static str,
-    report: &'static str,
-}
-
-fn done(texts: Texts, said: &'static str, sizes: &'static str, report: &'static str) -> Row {
-    Row {
-        texts,
-        exit: 0,
-        said,
-        sizes,
-        report,
-    }
 }
 
 fn refused(texts: Texts, said: &'static str) -> Row {
-    Row {
-        texts,
-        exit: 3,
-        said,
-        sizes: "before",
-        report: "earlier",
-    }
+    Row { texts, said }
 }
 
 fn of_library(library: &'static str) -> Texts {
@@ -135,46 +107,6 @@ fn of_wires(spef: &'static str) -> Texts {
 
 fn of_limits(sdc: &'static str) -> Texts {
     Texts { sdc, ..CHAIN_TEXTS }
-}
-
-/// The path through a flip-flop.
-fn path() -> Texts {
-    Texts {
-        library: ROWS,
-        netlist: PATH,
-        spef: PATH_WIRES,
-        sdc: PATH_LIMITS,
-    }
-}
-
-fn successes() -> [Row; 5] {
-    [
-        done(CHAIN_TEXTS, "written 2\n", CHAIN_SIZES, CHAIN_REPORT),
-        done(
-            of_netlist(EMPTY),
-            "written 0\n",
-            "",
-            "gate-sizing-report 1\nleakage 0.000000 1uW\nviolations 0\n",
-        ),
-        done(
-            of_library(LITTLE),
-            "written 2\n",
-            CHAIN_SIZES,
-            "gate-sizing-report 1\nleakage 0.000002\nviolations 0\n",
-        ),
-        done(
-            path(),
-            "written 5\n",
-            "g1 N2\ng2 I2\nf1 F1\ng3 I2\ng4 I2\n",
-            "gate-sizing-report 1\nleakage 18.000000 1uW\nviolations 0\n",
-        ),
-        done(
-            of_netlist(CUT_LATCH),
-            "written 2\n",
-            "g1 N1\ng2 F1\n",
-            "gate-sizing-report 1\nleakage 6.000000 1uW\nviolations 2\nsetup q1 held 17.000000 bound 1.000000\nsetup g2/d held 17.000000 bound 1.000000\n",
-        ),
-    ]
 }
 
 fn refusals_of_netlists() -> [Row; 4] {
@@ -325,34 +257,27 @@ fn refusals_of_nets() -> [Row; 4] {
     ]
 }
 
-/// Whether the run of a row ends as the row says, over a shelf without faults.
-fn ends_so(alloc: Global, row: Row) -> Result<bool, Fail> {
+/// Whether the run of a row ends as the row says, over a shelf without faults, and stores nothing.
+fn is_refused(alloc: Global, row: Row) -> Result<bool, Fail> {
     let mut shelf = NeverFails {
         files: files_with(alloc, row.texts)?,
         said: Bytes::empty(alloc),
     };
     let status = run(&(), alloc, &size_words(alloc)?, &mut shelf);
-    let sizes = shelf.files.get(b"n.sizes") == Some(row.sizes.as_bytes());
-    let report = shelf.files.get(b"n.rpt") == Some(row.report.as_bytes());
+    let sizes = shelf.files.get(b"n.sizes") == Some(b"before");
+    let log = shelf.files.get(b"n.log") == Some(b"older");
+    let report = shelf.files.get(b"n.rpt") == Some(b"earlier");
     let said = shelf.said.as_slice() == row.said.as_bytes();
-    Ok(exit_of(&status) == row.exit && said && sizes && report)
-}
-
-#[test]
-fn each_success(rt: HostRuntime) -> Result<(), Fail> {
-    for row in successes() {
-        assert!(rt; ends_so(rt.alloc(), row)?, "{}", row.report);
-    }
-    Ok(())
+    Ok(exit_of(&status) == 3 && said && sizes && log && report)
 }
 
 #[test]
 fn each_refusal_of_a_text(rt: HostRuntime) -> Result<(), Fail> {
     for row in refusals_of_netlists() {
-        assert!(rt; ends_so(rt.alloc(), row)?, "{}", row.said);
+        assert!(rt; is_refused(rt.alloc(), row)?, "{}", row.said);
     }
     for row in refusals_of_library_texts() {
-        assert!(rt; ends_so(rt.alloc(), row)?, "{}", row.said);
+        assert!(rt; is_refused(rt.alloc(), row)?, "{}", row.said);
     }
     Ok(())
 }
@@ -360,10 +285,10 @@ fn each_refusal_of_a_text(rt: HostRuntime) -> Result<(), Fail> {
 #[test]
 fn each_refusal_of_lines(rt: HostRuntime) -> Result<(), Fail> {
     for row in refusals_of_wires() {
-        assert!(rt; ends_so(rt.alloc(), row)?, "{}", row.said);
+        assert!(rt; is_refused(rt.alloc(), row)?, "{}", row.said);
     }
     for row in refusals_of_limits() {
-        assert!(rt; ends_so(rt.alloc(), row)?, "{}", row.said);
+        assert!(rt; is_refused(rt.alloc(), row)?, "{}", row.said);
     }
     Ok(())
 }
@@ -371,7 +296,7 @@ fn each_refusal_of_lines(rt: HostRuntime) -> Result<(), Fail> {
 #[test]
 fn each_refusal_of_a_library(rt: HostRuntime) -> Result<(), Fail> {
     for row in refusals_of_libraries() {
-        assert!(rt; ends_so(rt.alloc(), row)?, "{}", row.said);
+        assert!(rt; is_refused(rt.alloc(), row)?, "{}", row.said);
     }
     Ok(())
 }
@@ -379,10 +304,10 @@ fn each_refusal_of_a_library(rt: HostRuntime) -> Result<(), Fail> {
 #[test]
 fn each_refusal_of_a_design(rt: HostRuntime) -> Result<(), Fail> {
     for row in refusals_of_instances() {
-        assert!(rt; ends_so(rt.alloc(), row)?, "{}", row.said);
+        assert!(rt; is_refused(rt.alloc(), row)?, "{}", row.said);
     }
     for row in refusals_of_nets() {
-        assert!(rt; ends_so(rt.alloc(), row)?, "{}", row.said);
+        assert!(rt; is_refused(rt.alloc(), row)?, "{}", row.said);
     }
     Ok(())
 }
@@ -409,11 +334,24 @@ fn is_unknown_net(status: &Status, name: &[u8]) -> bool {
     }
 }
 
+/// Whether the chain was sized.
+fn is_done(status: &Status) -> bool {
+    matches!(
+        status,
+        Status::Done {
+            ended: Ended::Settled,
+            violations: 0,
+            leakage: Micro(2_000_000),
+            commits: 2
+        }
+    )
+}
+
 #[test]
 fn statuses_byte_by_byte(rt: HostRuntime) -> Result<(), Fail> {
     let alloc = rt.alloc();
-    let written = status_of(alloc, CHAIN_TEXTS)?;
-    assert!(rt; matches!(written, Status::Written { instances: 2 }));
+    let done = status_of(alloc, CHAIN_TEXTS)?;
+    assert!(rt; is_done(&done));
     let text = status_of(alloc, of_library("library (l) {"))?;
     assert!(rt;
         matches!(
@@ -437,24 +375,20 @@ fn statuses_byte_by_byte(rt: HostRuntime) -> Result<(), Fail> {
 }
 
 /// What stands after a run on the chain whose call number `k` fails.
-fn fails_so(
-    alloc: Global,
-    k: u64,
-    said: &str,
-    sizes: &str,
-    report: &str,
-) -> Result<Option<Status>, Fail> {
+fn fails_so(alloc: Global, k: u64, said: &str, stored: [&str; 3]) -> Result<Option<Status>, Fail> {
+    let [sizes, log, report] = stored;
     let mut shelf = shelf_with(alloc, files_with(alloc, CHAIN_TEXTS)?, &[k], 100_000)?;
     let status = run(&(), alloc, &size_words(alloc)?, &mut shelf);
     let stands = shelf.said.as_slice() == said.as_bytes()
         && shelf.files.get(b"n.sizes") == Some(sizes.as_bytes())
+        && shelf.files.get(b"n.log") == Some(log.as_bytes())
         && shelf.files.get(b"n.rpt") == Some(report.as_bytes());
     Ok(if stands { Some(status) } else { None })
 }
 
 /// Whether a failing call of this number is told as a file that could not be read.
 fn is_unread(alloc: Global, k: u64, said: &str, wanted: Input) -> Result<bool, Fail> {
-    let ended = fails_so(alloc, k, said, "before", "earlier")?;
+    let ended = fails_so(alloc, k, said, ["before", "older", "earlier"])?;
     Ok(match ended {
         Some(Status::ReadFault { file }) => file == wanted,
         _ => false,
@@ -479,44 +413,44 @@ fn each_fetch_fails(rt: HostRuntime) -> Result<(), Fail> {
     Ok(())
 }
 
+/// Whether a failing call of this number is told as an output that could not be written.
+fn is_unwritten(
+    alloc: Global,
+    k: u64,
+    said: &str,
+    stored: [&str; 3],
+    wanted: Output,
+) -> Result<bool, Fail> {
+    let ended = fails_so(alloc, k, said, stored)?;
+    Ok(match ended {
+        Some(Status::WriteFault { file }) => file == wanted,
+        _ => false,
+    })
+}
+
 #[test]
 fn each_store_fails(rt: HostRuntime) -> Result<(), Fail> {
     let alloc = rt.alloc();
-    let sizes = fails_so(alloc, 8, "cannot write sizes\n", "before", "earlier")?;
-    assert!(rt;
-        matches!(
-            sizes,
-            Some(Status::WriteFault {
-                file: Output::Sizes
-            })
-        )
-    );
-    let report = fails_so(alloc, 9, "cannot write report\n", CHAIN_SIZES, "earlier")?;
-    assert!(rt;
-        matches!(
-            report,
-            Some(Status::WriteFault {
-                file: Output::Report
-            })
-        )
-    );
+    let none = ["before", "older", "earlier"];
+    let sizes = is_unwritten(alloc, 8, "cannot write sizes\n", none, Output::Sizes)?;
+    assert!(rt; sizes);
+    let one = [CHAIN_SIZES, "older", "earlier"];
+    let log = is_unwritten(alloc, 9, "cannot write log\n", one, Output::Log)?;
+    assert!(rt; log);
+    let two = [CHAIN_SIZES, CHAIN_LOG, "earlier"];
+    let report = is_unwritten(alloc, 10, "cannot write report\n", two, Output::Report)?;
+    assert!(rt; report);
     Ok(())
 }
 
 #[test]
 fn the_line_fails(rt: HostRuntime) -> Result<(), Fail> {
     let alloc = rt.alloc();
-    let console = fails_so(alloc, 10, "", CHAIN_SIZES, CHAIN_REPORT)?;
-    assert!(rt;
-        matches!(
-            console,
-            Some(Status::WriteFault {
-                file: Output::Console
-            })
-        )
-    );
-    let whole = fails_so(alloc, 11, "written 2\n", CHAIN_SIZES, CHAIN_REPORT)?;
-    assert!(rt; matches!(whole, Some(Status::Written { instances: 2 })));
+    let all = [CHAIN_SIZES, CHAIN_LOG, CHAIN_REPORT];
+    let console = is_unwritten(alloc, 11, "", all, Output::Console)?;
+    assert!(rt; console);
+    let whole = fails_so(alloc, 12, CHAIN_DONE, all)?;
+    assert!(rt; whole.is_some_and(|status| is_done(&status)));
     Ok(())
 }
 
@@ -557,12 +491,14 @@ fn other_words(rt: HostRuntime) -> Result<(), Fail> {
     let alloc = rt.alloc();
     let short = words_of(alloc, &["size", "--verilog", "a", "--sizes", "b"])?;
     assert!(rt; is_usage(alloc, &short)?);
-    let command = form_of(alloc, "resize", ["a", "b", "c", "d"], ["e", "f"])?;
+    let command = form_of(alloc, "resize", ["a", "b", "c", "d"], ["e", "f", "g"])?;
     assert!(rt; is_usage(alloc, &command)?);
-    let unnamed = form_of(alloc, "size", ["a", "b", "c", ""], ["e", "f"])?;
+    let unnamed = form_of(alloc, "size", ["a", "b", "c", ""], ["e", "f", "g"])?;
     assert!(rt; is_usage(alloc, &unnamed)?);
-    let twice = form_of(alloc, "size", ["a", "b", "c", "d"], ["e", "c"])?;
+    let twice = form_of(alloc, "size", ["a", "b", "c", "d"], ["e", "f", "c"])?;
     assert!(rt; is_usage(alloc, &twice)?);
+    let log = form_of(alloc, "size", ["a", "b", "c", "d"], ["e", "e", "f"])?;
+    assert!(rt; is_usage(alloc, &log)?);
     assert!(rt; is_usage(alloc, &Words::new(alloc))?);
     Ok(())
 }

@@ -1,0 +1,101 @@
+//! Whole runs of `size` on the mixed design, with the sizes and the logs that two other programs of sizing ended with.
+
+use crate::linked::Texts;
+use crate::mixed::{LIMITS, TIGHT_LIMITS, texts_with};
+use gs_quantity::Mem;
+use gs_shelf::{Bytes, FileList, NeverFails};
+use gs_top::{Words, exit_of, run};
+use std::alloc::{AllocError, Global};
+use std::test::Fail;
+
+/// What a run of `size` on the mixed design reads, and what stands after it.
+#[derive(Clone, Copy)]
+struct Row {
+    sdc: &'static str,
+    exit: u8,
+    said: &'static str,
+    sizes: &'static str,
+    log: &'static str,
+    report: &'static str,
+}
+
+/// One inverter takes its smallest cell; back to the one in the middle gains nothing.
+fn met() -> Row {
+    Row {
+        sdc: LIMITS,
+        exit: 0,
+        said: "done settled leakage 38.350000 violations 0 commits 1\n",
+        sizes: "u1 INV_M\nu2 NAND_L\nu3 BUF_M\nu4 XOR_M\nr1 DFF_M\nu5 NAND_S\nu6 INV_S\nu7 XOR_M\nu8 INV_M\nu9 INV_S\n",
+        log: "gate-sizing-log 1\nc 0 u6 INV_S\nr 0 u6 INV_M\nend settled 2 121\n",
+        report: "gate-sizing-report 1\nended settled\nentries 2\nbudget 121\ncommits 1\nworker 0 commits 1\nleakage 38.350000 1nW\nviolations 0\n",
+    }
+}
+
+/// Two limits are broken from the start, so three inverters may make their endpoints later still.
+fn unmet() -> Row {
+    Row {
+        sdc: TIGHT_LIMITS,
+        exit: 1,
+        said: "done settled leakage 35.850000 violations 2 commits 3\n",
+        sizes: "u1 INV_S\nu2 NAND_L\nu3 BUF_M\nu4 XOR_M\nr1 DFF_M\nu5 NAND_S\nu6 INV_S\nu7 XOR_M\nu8 INV_S\nu9 INV_S\n",
+        log: "gate-sizing-log 1\nc 0 u1 INV_S\nr 0 u2 NAND_S\nc 0 u6 INV_S\nr 0 u6 INV_M\nc 0 u8 INV_S\nend settled 5 121\n",
+        report: "gate-sizing-report 1\nended settled\nentries 5\nbudget 121\ncommits 3\nworker 0 commits 3\nleakage 35.850000 1nW\nviolations 2\nsetup y held 184.042971 bound 110.000000\nsetup w held 169.849774 bound 85.000000\n",
+    }
+}
+
+fn size_words(alloc: Global) -> Result<Words, Mem> {
+    let mut words = Words::new(alloc);
+    for word in [
+        "size",
+        "--lib",
+        "n.lib",
+        "--verilog",
+        "n.v",
+        "--spef",
+        "n.spef",
+        "--sdc",
+        "n.sdc",
+        "--sizes",
+        "n.sizes",
+        "--log",
+        "n.log",
+        "--report",
+        "n.rpt",
+    ] {
+        words.add(word)?;
+    }
+    Ok(words)
+}
+
+fn files_of(alloc: Global, texts: &Texts) -> Result<FileList, AllocError> {
+    let mut files = FileList::new(alloc);
+    files.put(alloc, b"n.lib", texts.library)?;
+    files.put(alloc, b"n.v", texts.verilog)?;
+    files.put(alloc, b"n.spef", texts.spef)?;
+    files.put(alloc, b"n.sdc", texts.sdc)?;
+    Ok(files)
+}
+
+/// Whether the run of a row ends as the row says.
+fn stands(alloc: Global, row: Row) -> Result<bool, Fail> {
+    let mut shelf = NeverFails {
+        files: files_of(alloc, &texts_with(row.sdc))?,
+        said: Bytes::empty(alloc),
+    };
+    let words = size_words(alloc)?;
+    let status = run(&(), alloc, &words, &mut shelf);
+    Ok(
+        exit_of(&status) == row.exit
+            && shelf.said.as_slice() == row.said.as_bytes()
+            && shelf.files.get(b"n.sizes") == Some(row.sizes.as_bytes())
+            && shelf.files.get(b"n.log") == Some(row.log.as_bytes())
+            && shelf.files.get(b"n.rpt") == Some(row.report.as_bytes()),
+    )
+}
+
+#[test]
+fn each_size_of_the_mixed_design(rt: HostRuntime) -> Result<(), Fail> {
+    assert!(rt; stands(rt.alloc(), met())?);
+    assert!(rt; stands(rt.alloc(), unmet())?);
+    Ok(())
+}
