@@ -1,0 +1,12 @@
+pub mod Totals
+pub mod WalkLaws
+pub mod SourceLaws
+pub mod CarryLaws
+pub mod FlowLaws
+pub mod Ranges
+pub mod PriceLaws
+pub mod PlaceLaws
+pub mod TimingLaws
+pub mod StartLaws
+pub mod Offers
+pub mod MultiplierLaws

@@ -1,0 +1,10 @@
+pub mod Path
+pub mod Weight
+pub mod Cost
+pub mod Place
+pub mod Multiplier
+pub mod Start
+pub mod Flow
+pub mod Timed
+pub mod Carry
+pub mod Kept
