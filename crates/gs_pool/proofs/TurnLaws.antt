@@ -9,7 +9,6 @@ use Rattle.gs_move.specs.Judge.{Answers, fair_moves}
 use Rattle.gs_move.specs.Legal.{IsLegal}
 use Rattle.gs_move.specs.Minimum.{IsMinimumBy}
 use Rattle.gs_move.specs.State.{sizes_now}
-use Rattle.gs_move.specs.declared.ended.Ended.{Ended}
 use Rattle.gs_move.specs.declared.ended.Ended.TheVariants.{Settled, Spent}
 use Rattle.gs_move.specs.declared.entry.Entry.{Entry}
 use Rattle.gs_move.specs.declared.moves.Move.{Move}

@@ -20,7 +20,7 @@ use std::alloc::Global;
 /// Recovery without further workers, from the entries that a book has: rounds, each of which sweeps for Fair moves and tries and settles
 /// them in order under worker 0, until a sweep finds none (`Settled`) or there are as many entries as the budget (`Spent`).
 ///
-/// It waits for nobody. Each trial times the whole design. Every round but the last adds an entry; and with P moves away from any sizes there
+/// It waits for nobody. Each trial times what its move changes. Every round but the last adds an entry; and with P moves away from any sizes there
 /// are, under leakage recovery, at most P commits and at most P * (P + 2) entries in all (law `legal_is_few` of `gs_move`), so that a greater
 /// budget is never spent. `rt` is not used yet, except that each sweep is given it.
 ///

@@ -10,10 +10,12 @@ ghost use Rattle.gs_move.specs.Trial.{trial_of};
 
 use gs_book::Book;
 use gs_design::SizeView;
+use gs_incr::Scratch;
 use gs_move::{Judge, Move, Trial, moves_fit};
 use gs_quantity::{Mem, Steps};
 use gs_sweep::sweep;
-use gs_trial::{timing_is_made, try_move};
+use gs_timing::timing_is_made;
+use gs_trial::try_in;
 use std::alloc::Global;
 use std::marker::Brand;
 use std::sync::ledger::{Blank, Ledger};
@@ -43,20 +45,24 @@ pub fn sweep_book<R, J: Judge>(rt: &R, alloc: Global, book: &Book<J>) -> Result<
 fn tried<J: Judge, L: Ledger>(
     alloc: Global,
     blank: Blank,
+    scratch: &mut Scratch,
     book: &Book<J>,
     mv: Move,
 ) -> Result<Trial, Mem>
     requires name { blank.name ≡ L.name }
     requires parts { blank.parts ≡ L.parts }
     requires some { 0 < blank.parts }
+    requires nets { scratch.old.nets ≡ length book.now.design.nets }
     requires mv { is_move book.now.design (sizes_now book.now.start book.now.entries) mv ≡ true }
-    ensures { IfOk result (λ t. t ≡ trial_of (J.answers book.now.judge) book.now.design (sizes_now book.now.start book.now.entries) mv (length (commits_of book.now.entries)) 0) }
+    ensures nets { scratch.new.nets ≡ scratch.old.nets }
+    ensures trial { IfOk result (λ t. t ≡ trial_of (J.answers book.now.judge) book.now.design (sizes_now book.now.start book.now.entries) mv (length (commits_of book.now.entries)) 0) }
 {
     timing_is_made(book.design());
     let mut steps = Steps::<L>::begin(blank);
     let worker = 0;
-    try_move(
+    try_in(
         alloc,
+        scratch,
         book.design(),
         book.sizes(),
         book.timing(),
@@ -77,15 +83,22 @@ fn is_present<J: Judge>(book: &Book<J>, mv: &Move) -> bool
 }
 
 // Tries a move on a book itself and settles it; a move whose place is the present one is skipped.
-fn settle_move<J: Judge>(alloc: Global, book: &mut Book<J>, mv: Move) -> Result<(), Mem>
-    requires { IsMoveOf book.old.design mv }
-    ensures { OnOk result (book.new ≡ record book.old { entries = after_move (J.answers book.old.judge) book.old.design book.old.start book.old.budget book.old.entries mv; spare = book.new.spare }) }
+fn settle_move<J: Judge>(
+    alloc: Global,
+    scratch: &mut Scratch,
+    book: &mut Book<J>,
+    mv: Move,
+) -> Result<(), Mem>
+    requires nets { scratch.old.nets ≡ length book.old.design.nets }
+    requires mv { IsMoveOf book.old.design mv }
+    ensures nets { scratch.new.nets ≡ scratch.old.nets }
+    ensures book { OnOk result (book.new ≡ record book.old { entries = after_move (J.answers book.old.judge) book.old.design book.old.start book.old.budget book.old.entries mv; spare = book.new.spare }) }
 {
     if is_present(book, &mv) {
         return Ok(());
     }
     book.make_room()?;
-    let trial = tried::<J, Brand>(alloc, Blank::new(1), book, mv)?;
+    let trial = tried::<J, Brand>(alloc, Blank::new(1), scratch, book, mv)?;
     book.settle(trial);
     Ok(())
 }
@@ -99,11 +112,12 @@ pub fn run_round<J: Judge>(alloc: Global, book: &mut Book<J>, moves: &[Move]) ->
     requires { All (IsMoveOf book.old.design) moves.now }
     ensures { OnOk result (book.new ≡ record book.old { entries = after_round (J.answers book.old.judge) book.old.design book.old.start book.old.budget book.old.entries moves.now; spare = book.new.spare }) }
 {
+    let mut scratch = Scratch::new(alloc, book.design())?;
     for mv in moves {
         if book.entries().len() as u64 == book.budget() {
             return Ok(());
         }
-        settle_move(alloc, book, *mv)?;
+        settle_move(alloc, &mut scratch, book, *mv)?;
     }
     Ok(())
 }

@@ -1,7 +1,7 @@
 //! Whether one move is Fair.
 #![tactic(auto)]
 
-ghost use Rattle.std.specs.Prelude.{◌≡◌, ◌<◌, IfOk, true};
+ghost use Rattle.std.specs.Prelude.{◌≡◌, ◌<◌, IfOk, length, true};
 ghost use Rattle.gs_design.specs.Sizes.{FitSizes};
 ghost use Rattle.gs_design.specs.Timing.{IsTiming};
 ghost use Rattle.gs_move.specs.Change.{change_of};
@@ -9,10 +9,10 @@ ghost use Rattle.gs_move.specs.Judge.{is_fair, is_fair_by};
 ghost use Rattle.gs_move.specs.Moves.{is_move};
 
 use gs_design::{Design, Sizes, Timing};
+use gs_incr::Scratch;
 use gs_move::{Judge, Move, Outcome};
 use gs_quantity::{Mem, Steps};
-use gs_trial::try_move;
-use std::alloc::Global;
+use gs_trial::outcome_in;
 use std::marker::Brand;
 use std::sync::ledger::{Blank, Ledger};
 
@@ -26,8 +26,8 @@ fn is_fair(outcome: &Outcome) -> bool
 
 // What the judge says of a move. The counter of the trial is thrown away.
 fn judged<J: Judge, L: Ledger>(
-    alloc: Global,
     blank: Blank,
+    scratch: &mut Scratch,
     design: &Design,
     sizes: &Sizes,
     timing: &Timing,
@@ -37,34 +37,37 @@ fn judged<J: Judge, L: Ledger>(
     requires name { blank.name ≡ L.name }
     requires parts { blank.parts ≡ L.parts }
     requires some { 0 < blank.parts }
+    requires nets { scratch.old.nets ≡ length design.now.nets }
     requires sizes { FitSizes design.now sizes.now }
     requires timing { IsTiming design.now sizes.now timing.now }
     requires mv { is_move design.now sizes.now mv.now ≡ true }
-    ensures { IfOk result (λ o. o ≡ (J.answers judge.now).judge (change_of design.now sizes.now mv.now)) }
+    ensures nets { scratch.new.nets ≡ scratch.old.nets }
+    ensures outcome { IfOk result (λ o. o ≡ (J.answers judge.now).judge (change_of design.now sizes.now mv.now)) }
 {
     let mut steps = Steps::<L>::begin(blank);
-    let trial = try_move(alloc, design, sizes, timing, 0, 0, *mv, judge, &mut steps)?;
-    Ok(trial.outcome)
+    outcome_in(scratch, design, sizes, timing, mv, judge, &mut steps)
 }
 
-/// Whether a move is Fair by a judge.
+/// Whether a move is Fair by a judge, in the memory of a [`Scratch`] for the design.
 ///
 /// # Errors
 ///
 /// `Mem` is want of memory.
 pub fn is_fair_by<J: Judge>(
-    alloc: Global,
+    scratch: &mut Scratch,
     design: &Design,
     sizes: &Sizes,
     timing: &Timing,
     judge: &J,
     mv: &Move,
 ) -> Result<bool, Mem>
+    requires nets { scratch.old.nets ≡ length design.now.nets }
     requires sizes { FitSizes design.now sizes.now }
     requires timing { IsTiming design.now sizes.now timing.now }
     requires mv { is_move design.now sizes.now mv.now ≡ true }
-    ensures { IfOk result (λ b. b ≡ is_fair_by (J.answers judge.now) design.now sizes.now mv.now) }
+    ensures nets { scratch.new.nets ≡ scratch.old.nets }
+    ensures fair { IfOk result (λ b. b ≡ is_fair_by (J.answers judge.now) design.now sizes.now mv.now) }
 {
-    let outcome = judged::<J, Brand>(alloc, Blank::new(1), design, sizes, timing, judge, mv)?;
+    let outcome = judged::<J, Brand>(Blank::new(1), scratch, design, sizes, timing, judge, mv)?;
     Ok(is_fair(&outcome))
 }

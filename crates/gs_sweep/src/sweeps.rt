@@ -10,6 +10,7 @@ ghost use Rattle.gs_sweep.specs.Inst.{fair_of_inst};
 
 use crate::fair::is_fair_by;
 use gs_design::{Design, InstId, SizeView, Sizes, Timing};
+use gs_incr::Scratch;
 use gs_move::{Judge, Move};
 use gs_quantity::Mem;
 use std::alloc::{AllocError, Global};
@@ -24,7 +25,7 @@ fn add(found: &mut Vec<Move>, mv: Move) -> Result<(), AllocError>
 
 // Appends the Fair moves of one instance, by place.
 fn sweep_inst<J: Judge>(
-    alloc: Global,
+    scratch: &mut Scratch,
     design: &Design,
     sizes: &Sizes,
     timing: &Timing,
@@ -32,10 +33,12 @@ fn sweep_inst<J: Judge>(
     inst: InstId,
     found: &mut Vec<Move>,
 ) -> Result<(), Mem>
+    requires nets { scratch.old.nets ≡ length design.now.nets }
     requires sizes { FitSizes design.now sizes.now }
     requires timing { IsTiming design.now sizes.now timing.now }
     requires inst { inst < length design.now.insts }
-    ensures { OnOk result (found.new.items ≡ found.old.items ++ fair_of_inst (J.answers judge.now) design.now sizes.now inst) }
+    ensures nets { scratch.new.nets ≡ scratch.old.nets }
+    ensures found { OnOk result (found.new.items ≡ found.old.items ++ fair_of_inst (J.answers judge.now) design.now sizes.now inst) }
 {
     let present = sizes.place(inst);
     for place in 0..design.insts.alts(inst).len() as u32 {
@@ -43,7 +46,7 @@ fn sweep_inst<J: Judge>(
             continue;
         }
         let mv = Move { inst, place };
-        let fair = is_fair_by(alloc, design, sizes, timing, judge, &mv)?;
+        let fair = is_fair_by(scratch, design, sizes, timing, judge, &mv)?;
         if !fair {
             continue;
         }
@@ -54,7 +57,7 @@ fn sweep_inst<J: Judge>(
 
 /// All moves at sizes that a judge finds Fair, by instance and then place. Conditions: the sizes fit the design, and the timing is theirs.
 ///
-/// It tries each move of the design, and each trial that the judge doesn't refuse at a glance times the whole design. `_rt` is not used yet:
+/// It judges each move of the design by what it changes, and keeps its memory from move to move. `_rt` is not used yet:
 /// moves are judged one after another, whatever the runtime; a later form judges them side by side.
 ///
 /// # Errors
@@ -74,10 +77,11 @@ pub fn sweep<R, J: Judge>(
     // each of them is a move at the sizes
     ensures moves { IfOk result (λ v. All (λ m. is_move design.now sizes.now m ≡ true) v.items) }
 {
+    let mut scratch = Scratch::new(alloc, design)?;
     let mut found = Vec::new(alloc);
     for number in 0..design.insts.len() as u32 {
         sweep_inst(
-            alloc,
+            &mut scratch,
             design,
             sizes,
             timing,

@@ -1,13 +1,14 @@
 -- A pass over a design in its order, net by net.
 
-use Rattle.std.proofs.Common.{◌≡◌, ◌≢◌, ℕ, zero, suc, ◌+◌, ◌*◌, ◌<◌, ◌≤◌, ◌⊎◌, true, All, List, [], ◌∷◌, ◌++◌, length, slice_index, slice_index_or, slice_set, replicate, refl, sym, ◌∙◌, ap, subst, arith, inl, inr}
-use Rattle.std.proofs.lemmas.List.{get_or-set_other, get_or-set_same, length-replicate, length-set, replicate-append-replicate}
+use Rattle.std.proofs.Common.{◌≡◌, ◌≢◌, ℕ, zero, suc, ◌+◌, ◌*◌, ◌<◌, ◌≤◌, ◌⊎◌, true, All, List, [], ◌∷◌, ◌++◌, fold, take, length, slice_index, slice_index_or, slice_set, replicate, refl, sym, ◌∙◌, ap, subst, arith, inl, inr}
+use Rattle.std.proofs.lemmas.List.{get_or-set_other, get_or-set_same, length-replicate, length-set, replicate-append-replicate, take_all}
+use Rattle.std.proofs.lemmas.List.Sums.{fold_more}
 use Rattle.std.proofs.lemmas.Bool.{cases_eq}
 use Rattle.gs_design.specs.Ends.{is_gate_inst}
 use Rattle.gs_design.specs.Insts.{inst_at}
 use Rattle.gs_design.specs.Nets.{net_at}
 use Rattle.gs_design.specs.Sizes.{FitSizes}
-use Rattle.gs_design.specs.Timing.{IsTiming, local_of}
+use Rattle.gs_design.specs.Timing.{IsTiming, local_of, time_net, timing_of}
 use Rattle.gs_design.specs.Times.{no_time, time_at}
 use Rattle.gs_design.specs.declared.design.Design.{Design}
 use Rattle.gs_design.specs.declared.sink.Driver.TheVariants.{Inst}
@@ -145,3 +146,25 @@ timed_none d s = record { as_many = length-replicate (length d.nets) no_time; ea
 -- one more record of a net that is yet to be timed
 pub untimed_more : (xs : List NetTime) (n : ℕ) → xs ≡ replicate n no_time → xs ++ no_time ∷ [] ≡ replicate (n + 1) no_time
 untimed_more xs n is = rw is (replicate-append-replicate n 1 no_time)
+
+-- ---- the pass as a fold
+
+abbrev untimed : Design → List NetTime
+untimed d = replicate (length d.nets) no_time
+
+module _ (d : Design) (s : List ℕ) (fit : FitSizes d s) where
+  made_to : (i : ℕ) → i ≤ length d.nets → IsTimedTo d s (fold (time_net d s) (untimed d) (take i d.order)) i
+  made_to zero le = timed_none d s
+  made_to (suc i) le =
+      let lt : i < length d.nets = omega (arith, le) in
+      let in_order : i < length d.order = omega (arith, lt, d.well.order_kept.ordered) in
+      let more = timed_more d s fit (fold (time_net d s) (untimed d) (take i d.order)) i lt (made_to i (omega (arith, le))) in
+      let one : i + 1 ≡ suc i = omega arith in
+      subst (λ k. IsTimedTo d s (fold (time_net d s) (untimed d) (take k d.order)) k) one
+      (subst (λ t. IsTimedTo d s t (i + 1)) (sym (fold_more (time_net d s) (untimed d) d.order i 0 in_order)) more)
+
+  -- the timing that is made net by net meets the equation of every net
+  pub timing_made : IsTiming d s (timing_of d s)
+  timing_made =
+      let all : take (length d.nets) d.order ≡ d.order = take_all (length d.nets) d.order (omega (arith, d.well.order_kept.ordered)) in
+      timed_all d s (timing_of d s) (subst (λ o. IsTimedTo d s (fold (time_net d s) (untimed d) o) (length d.nets)) all (made_to (length d.nets) (omega arith)))

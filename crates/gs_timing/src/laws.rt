@@ -4,7 +4,7 @@
 ghost use Rattle.std.specs.Prelude.{◌≡◌, ◌<◌, ℕ, List, length, nat_abs};
 ghost use Rattle.gs_design.specs.Sizes.{FitSizes};
 ghost use Rattle.gs_design.specs.Times.{time_at};
-ghost use Rattle.gs_design.specs.Timing.{IsTiming, local_of};
+ghost use Rattle.gs_design.specs.Timing.{IsTiming, local_of, timing_of};
 ghost use Rattle.gs_design.specs.declared.time.NetTime.{NetTime};
 ghost use Rattle.gs_timing.specs.Late.{IsLate};
 ghost use Rattle.gs_timing.specs.Same.{SameSizesAt, SameTimesAt};
@@ -14,6 +14,14 @@ use gs_design::Design;
 /// A design at its sizes has one timing.
 pub fn one_timing(design: &Design)
     ensures { (s : List ℕ) (t u : List NetTime) → FitSizes design.now s → IsTiming design.now s t → IsTiming design.now s u → t ≡ u }
+{
+    let _ = design;
+}
+
+/// The timing of a design at its sizes is the one that is made net by net in the design's order.
+pub fn timing_is_made(design: &Design)
+    ensures made { (s : List ℕ) → FitSizes design.now s → IsTiming design.now s (timing_of design.now s) }
+    ensures only { (s : List ℕ) (t : List NetTime) → FitSizes design.now s → IsTiming design.now s t → t ≡ timing_of design.now s }
 {
     let _ = design;
 }

@@ -23,5 +23,5 @@ mod tests;
 mod whole;
 
 pub use eval::eval_net;
-pub use laws::{arrivals_are_small, loads_are_small, one_timing, record_reads};
+pub use laws::{arrivals_are_small, loads_are_small, one_timing, record_reads, timing_is_made};
 pub use whole::time_all;

@@ -11,8 +11,7 @@ use gs_move::{Ended, Recovery, legal_is_few, legal_is_run, minimum_is_none_fair,
 use gs_pool::recover_alone;
 use gs_quantity::Mem;
 use gs_report::{Log, each_log_is_determined};
-use gs_timing::time_all;
-use gs_trial::timing_is_made;
+use gs_timing::{time_all, timing_is_made};
 use std::alloc::Global;
 use std::sync::Arc;
 

@@ -114,7 +114,7 @@ first_at d p n lt =
     (λ P h l of_it here. each_at d n lt P h l of_it here)
     (find p (limits_at d n)) refl
 
-net_in : (d : Design) (l : Limit) → IsLimitOf d l → limit_net d l < length d.nets
+pub net_in : (d : Design) (l : Limit) → IsLimitOf d l → limit_net d l < length d.nets
 net_in d (Setup e) of_it = d.well.ends_kept.nets_in e of_it
 net_in d (Slew n) of_it = of_it
 net_in d (Load n) of_it = of_it.0

@@ -1,6 +1,9 @@
 pub mod Lists
 pub mod LimitLaws
 pub mod FirstLaws
+pub mod OrderLaws
 pub mod OverLaws
-pub mod TimingLaws
 pub mod ChangedLaws
+pub mod SeenLaws
+pub mod ChangedSeen
+pub mod JudgedLaws

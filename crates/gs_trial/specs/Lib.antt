@@ -1,3 +1,5 @@
 pub mod Bounded
+pub mod Nets
 pub mod Order
 pub mod Over
+pub mod Steps

@@ -1,14 +1,10 @@
-//! The first limit that is met before a move and not after it.
+//! The earlier of two limits.
 #![tactic(auto)]
 
-ghost use Rattle.std.specs.Prelude.{◌≡◌, find};
-ghost use Rattle.gs_design.specs.Limits.{limits};
-ghost use Rattle.gs_design.specs.Timing.{FitTiming};
-ghost use Rattle.gs_move.specs.Change.{is_lost};
+ghost use Rattle.std.specs.Prelude.{◌≡◌, Some};
 ghost use Rattle.gs_trial.specs.Order.{earlier, limit_rank};
 
-use gs_design::{Design, Limit, NetId, TimeView, Timing};
-use gs_limits::judge_net;
+use gs_design::{Design, Limit};
 
 // The place of a limit in the order of all limits: setup by endpoint, then slew by net, then load by net.
 fn rank(design: &Design, limit: &Limit) -> u64
@@ -35,7 +31,9 @@ fn earlier_of(design: &Design, a: &Limit, b: &Limit) -> Option<Limit>
     }
 }
 
-fn earlier(design: &Design, a: &Option<Limit>, b: &Option<Limit>) -> Option<Limit>
+/// The earlier of two limits, where they are given.
+#[inline]
+pub fn earlier(design: &Design, a: &Option<Limit>, b: &Option<Limit>) -> Option<Limit>
     ensures { result ≡ earlier design.now a.now b.now }
 {
     match (a, b) {
@@ -43,19 +41,4 @@ fn earlier(design: &Design, a: &Option<Limit>, b: &Option<Limit>) -> Option<Limi
         (Some(x), None) => Some(*x),
         (None, other) => *other,
     }
-}
-
-/// The first limit, in the order of the limits of a design, that is met in one timing and not in the other.
-pub fn first_lost(design: &Design, old: &Timing, new: &Timing) -> Option<Limit>
-    requires old { FitTiming design.now old.now }
-    requires new { FitTiming design.now new.now }
-    ensures { result ≡ find (is_lost design.now old.now new.now) (limits design.now) }
-{
-    let mut first = None;
-    for number in 0..design.nets.len() as u32 {
-        let net = NetId(number);
-        let outcome = judge_net(design, net, &old.at(net), &new.at(net));
-        first = earlier(design, &first, &outcome.broken);
-    }
-    first
 }

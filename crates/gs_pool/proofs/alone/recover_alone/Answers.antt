@@ -1,4 +1,4 @@
-use Rattle.std.proofs.Common.{◌≡◌, ℕ, ◌<◌, length, refl, sym, ◌∙◌, ap, subst, arith}
+use Rattle.std.proofs.Common.{◌≡◌, ◌<◌, length, refl, ◌∙◌, ap, subst, arith}
 use Rattle.gs_move.specs.Alone.{after_round, sweep_of}
 use Rattle.gs_move.specs.Legal.{IsLegal}
 use Rattle.gs_pool.proofs.SettleLaws.{entries_are, same_budget, step_on, still_same}

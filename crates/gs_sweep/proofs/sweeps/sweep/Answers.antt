@@ -12,8 +12,9 @@ loop-number-preserved g c =
     let s = c.args.sizes.now in
     let n = c.loop-number.number in
     record {
-      found = c.in_ok-sweep_inst.ensures ∙ ap (λ ms. ms ++ fair_of_inst J d s n) c.loop-number.invariant.found ∙ sym (inst_more J d s n);
+      found = c.in_ok-sweep_inst.ensures.found ∙ ap (λ ms. ms ++ fair_of_inst J d s n) c.loop-number.invariant.found ∙ sym (inst_more J d s n);
       in_range = omega (arith, c.loop-number-test.true, c.len-number-end.ensures);
+      nets = c.sweep_inst.ensures.nets ∙ c.loop-number.invariant.nets;
     }
 
 pub returns-clause-moves : goal.returns-clause-moves

@@ -13,6 +13,7 @@ loop-place-preserved-then-place-present g c =
     record {
       found = c.loop-place.invariant.found ∙ ap (λ ms. c.args.found.now.items ++ ms) (sym (place_present J d s c.args.inst p (c.if-place-present.true ∙ c.place-present.ensures)));
       in_range = subst (λ alts. p + 1 ≤ length alts) c.alts.ensures (omega (arith, c.loop-place-test.true));
+      nets = c.loop-place.invariant.nets;
     }
 
 pub loop-place-preserved-then-not-fair : goal.loop-place-preserved-then-not-fair
@@ -21,11 +22,12 @@ loop-place-preserved-then-not-fair g c =
     let d = c.args.design.now in
     let s = c.args.sizes.now in
     let p = c.loop-place.place in
-    let unfair : is_fair_by J d s (to c.args.inst p) ≡ false = sym c.in_ok-fair.ensures ∙ c.if-not-fair.true in
+    let unfair : is_fair_by J d s (to c.args.inst p) ≡ false = sym c.in_ok-fair.ensures.fair ∙ c.if-not-fair.true in
     record {
       found = c.loop-place.invariant.found
           ∙ ap (λ ms. c.args.found.now.items ++ ms) (sym (place_unfair J d s c.args.inst p (λ e. c.if-place-present.false (e ∙ sym c.place-present.ensures)) unfair));
       in_range = subst (λ alts. p + 1 ≤ length alts) c.alts.ensures (omega (arith, c.loop-place-test.true));
+      nets = c.is_fair_by.ensures.nets ∙ c.loop-place.invariant.nets;
     }
 
 pub loop-place-preserved : goal.loop-place-preserved
@@ -34,10 +36,11 @@ loop-place-preserved g c =
     let d = c.args.design.now in
     let s = c.args.sizes.now in
     let p = c.loop-place.place in
-    let fair : is_fair_by J d s (to c.args.inst p) ≡ true = sym c.in_ok-fair.ensures ∙ c.if-not-fair.false in
+    let fair : is_fair_by J d s (to c.args.inst p) ≡ true = sym c.in_ok-fair.ensures.fair ∙ c.if-not-fair.false in
     record {
       found = c.in_ok-add.ensures ∙ ap (λ ms. ms ++ to c.args.inst p ∷ []) c.loop-place.invariant.found
           ∙ append_assoc c.args.found.now.items (fair_below J d s c.args.inst p) (to c.args.inst p ∷ [])
           ∙ ap (λ ms. c.args.found.now.items ++ ms) (sym (place_fair J d s c.args.inst p (λ e. c.if-place-present.false (e ∙ sym c.place-present.ensures)) fair));
       in_range = subst (λ alts. p + 1 ≤ length alts) c.alts.ensures (omega (arith, c.loop-place-test.true));
+      nets = c.is_fair_by.ensures.nets ∙ c.loop-place.invariant.nets;
     }

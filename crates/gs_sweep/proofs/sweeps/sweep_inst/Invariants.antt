@@ -7,4 +7,5 @@ abbrev pub invariant-loop-place : goal.invariant-loop-place
 invariant-loop-place g l = record {
   found : l.found.items ≡ l.fn.found.items ++ fair_below (g.J.Judge.answers l.judge) l.design l.sizes l.inst l.place;
   in_range : l.place ≤ alt_count l.design l.inst;
+  nets : l.scratch.nets ≡ l.fn.scratch.nets;
 }
