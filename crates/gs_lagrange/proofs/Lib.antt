@@ -6,7 +6,6 @@ pub mod FlowLaws
 pub mod Ranges
 pub mod PriceLaws
 pub mod PlaceLaws
-pub mod TimingLaws
 pub mod StartLaws
 pub mod Offers
 pub mod MultiplierLaws

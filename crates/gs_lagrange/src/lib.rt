@@ -9,16 +9,16 @@
 //! comes from. So a pass costs some timings of the design, however many endpoints there are.
 //!
 //! Where to change what: where an edge comes from in `source`, the weights in `weigh` and `flow`, the cost of a place in `price`, the place of an
-//! instance in `place`, multipliers in `multiplier`, what sizes are judged by in `score`, a pass in `pass`, and the choice among all in `starts`.
+//! instance in `place`, the parallel map over instances in `chooser`, multipliers in `multiplier`, what sizes are judged by in `score`, a pass in `pass`, and the choice among all in `starts`.
 #![tactic(auto)]
 
 mod amount;
 mod best;
 mod choice;
+mod chooser;
 mod cost;
 mod edge;
 mod flow;
-mod laws;
 mod multiplier;
 mod pass;
 mod place;

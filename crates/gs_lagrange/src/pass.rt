@@ -11,7 +11,6 @@ ghost use Rattle.gs_lagrange.specs.Start.{after_pass, first_state, state_with};
 ghost use Rattle.gs_lagrange.specs.Weight.{weight_of};
 
 use crate::flow::Flows;
-use crate::laws::timing_is_made;
 use crate::multiplier::raised_all;
 use crate::place::places_for;
 use crate::state::State;
@@ -20,8 +19,9 @@ use crate::weighed::Weighed;
 use gs_design::{Design, Numbers, Sizes};
 use gs_list::Rows;
 use gs_quantity::Mem;
-use gs_timing::{arrivals_are_small, time_all};
+use gs_timing::{arrivals_are_small, time_all, timing_is_made};
 use std::alloc::Global;
+use std::thread::Threads;
 
 // These sizes with their timing, and these multipliers.
 fn state_with(
@@ -87,18 +87,25 @@ fn weighed<'a>(design: &'a Design, state: &'a State, flows: &'a Flows) -> Weighe
 }
 
 // The places that the nets' weights give.
-fn replaced(alloc: Global, design: &Design, state: &State, flows: &Flows) -> Result<Sizes, Mem>
+fn replaced<R: Threads + Sync>(
+    rt: &R,
+    alloc: Global,
+    design: &Design,
+    state: &State,
+    flows: &Flows,
+) -> Result<Sizes, Mem>
     requires kept { IsKept design.now state.now }
     requires as_many { length flows.now ≡ length design.now.nets }
     requires light { AreLight flows.now }
     ensures value { IfOk result (λ s. s ≡ places_for design.now state.now.sizes state.now.timing (weight_in flows.now)) }
     ensures fit { IfOk result (λ s. FitSizes design.now s) }
 {
-    places_for(alloc, &weighed(design, state, flows))
+    places_for(rt, alloc, &weighed(design, state, flows))
 }
 
 // The sizes after a pass.
-fn sizes_after(
+fn sizes_after<R: Threads + Sync>(
+    rt: &R,
     alloc: Global,
     design: &Design,
     state: &State,
@@ -117,7 +124,7 @@ fn sizes_after(
         &state.multipliers,
         flows,
     );
-    replaced(alloc, design, state, flows)
+    replaced(rt, alloc, design, state, flows)
 }
 
 /// The state after a pass. `flows` is of as many nets as the design; what it held is gone.
@@ -125,7 +132,8 @@ fn sizes_after(
 /// # Errors
 ///
 /// `Mem` is want of memory.
-pub fn after_pass(
+pub fn after_pass<R: Threads + Sync>(
+    rt: &R,
     alloc: Global,
     design: &Design,
     state: &State,
@@ -138,7 +146,7 @@ pub fn after_pass(
     ensures kept { IfOk result (λ x. IsKept design.now x) }
 {
     arrivals_are_small(design);
-    let sizes = sizes_after(alloc, design, state, flows)?;
+    let sizes = sizes_after(rt, alloc, design, state, flows)?;
     let multipliers = raised_all(alloc, design, &state.timing, &state.multipliers)?;
     state_with(alloc, design, sizes, multipliers)
 }

@@ -7,11 +7,13 @@ ghost use Rattle.gs_lagrange.specs.Flow.{weight_in};
 ghost use Rattle.gs_lagrange.specs.Place.{cheaper, choices_to, place_for, places_for};
 
 use crate::choice::{Choice, cheaper_of, place_or};
+use crate::chooser::{Chooser, choose_all};
 use crate::price::choice_at;
 use crate::weighed::Weighed;
 use gs_design::{InstId, SizeView, Sizes};
 use gs_quantity::Mem;
-use std::alloc::{AllocError, Global};
+use std::alloc::Global;
+use std::thread::Threads;
 
 // The first choice of least cost among the allowed places of an instance.
 fn cheapest(weighed: &Weighed, inst: InstId) -> Option<Choice>
@@ -42,19 +44,28 @@ fn place_for(weighed: &Weighed, inst: InstId) -> u32
     }
 }
 
-/// The places that all instances take.
+impl Chooser for Weighed<'_> {
+    ghost use Rattle.std.specs.Prelude.{length};
+    ghost use Rattle.gs_lagrange.specs.Flow.{weight_in};
+    ghost use Rattle.gs_lagrange.specs.Place.{place_for};
+
+    ghost count = { λ w. length w.design.now.insts };
+
+    ghost chosen = { λ w. place_for w.design.now w.sizes.now w.timing.now (weight_in w.flows.now) };
+
+    fn choose(&self, number: usize) -> u32 {
+        let _count = self.design.insts.len();
+        place_for(self, InstId(number as u32))
+    }
+}
+
+/// The places that all instances take, chosen in parallel.
 ///
 /// # Errors
 ///
 /// `Mem` is want of memory.
-pub fn places_for(alloc: Global, weighed: &Weighed) -> Result<Sizes, Mem>
+pub fn places_for<R: Threads + Sync>(rt: &R, alloc: Global, weighed: &Weighed) -> Result<Sizes, Mem>
     ensures { IfOk result (λ s. s ≡ places_for weighed.now.design.now weighed.now.sizes.now weighed.now.timing.now (weight_in weighed.now.flows.now)) }
 {
-    let count = weighed.design.insts.len();
-    let mut places = Vec::with_capacity(alloc, count)?;
-    for number in 0..count as u32 {
-        let place = place_for(weighed, InstId(number));
-        places.push(place).map_err(AllocError::from)?;
-    }
-    Ok(Sizes::from_vec(places))
+    choose_all(rt, alloc, weighed, weighed.design.insts.len())
 }

@@ -14,6 +14,7 @@ use crate::state::State;
 use gs_design::{Design, Sizes};
 use gs_quantity::Mem;
 use std::alloc::Global;
+use std::thread::Threads;
 
 // The sizes of a state, with their score.
 fn scored(alloc: Global, design: &Design, state: &State) -> Result<Best, Mem>
@@ -46,12 +47,18 @@ fn better_of(alloc: Global, design: &Design, best: Best, state: &State) -> Resul
 ///
 /// A pass gives each instance the place of least cost, all at once, by the timing before it: 2^20 times the leakage, and the arrivals of the
 /// instance's nets times the nets' weights. A net's weight is the sum of the multipliers of the endpoints whose latest path comes by it, and
-/// a multiplier rises while its endpoint is late. It takes for each pass the time of some timings of the design. `_rt` is not used yet.
+/// a multiplier rises while its endpoint is late. It takes for each pass the time of some timings of the design. The places of a
+/// pass are chosen in parallel, by as many threads as `rt` has; no answer shows how many.
 ///
 /// # Errors
 ///
 /// `Mem` is want of memory.
-pub fn start<R>(_rt: &R, alloc: Global, design: &Design, passes: u32) -> Result<Sizes, Mem>
+pub fn start<R: Threads + Sync>(
+    rt: &R,
+    alloc: Global,
+    design: &Design,
+    passes: u32,
+) -> Result<Sizes, Mem>
     ensures start { IfOk result (λ s. s ≡ start_of design.now passes) }
     ensures fit { IfOk result (λ s. FitSizes design.now s) }
 {
@@ -59,7 +66,7 @@ pub fn start<R>(_rt: &R, alloc: Global, design: &Design, passes: u32) -> Result<
     let mut state = first_state(alloc, design)?;
     let mut best = scored(alloc, design, &state)?;
     for _ in 0..passes {
-        let next = after_pass(alloc, design, &state, &mut flows)?;
+        let next = after_pass(rt, alloc, design, &state, &mut flows)?;
         let better = better_of(alloc, design, best, &next)?;
         state = next;
         best = better;

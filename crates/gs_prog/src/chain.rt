@@ -11,7 +11,7 @@ use std::alloc::Global;
 use std::test::Fail;
 
 /// Two inverters of one class: I1 leaks less, I2 drives more.
-const LIBRARY: &[u8] =
+pub(crate) const LIBRARY: &[u8] =
     b"library (rows) { time_unit : \"1ps\"; capacitive_load_unit (1, ff); leakage_power_unit : \"1uW\"; default_max_transition : 100; lu_table_template (t) { variable_1 : total_output_net_capacitance; index_1 (\"0, 10\"); } cell (I1) { cell_leakage_power : 1; cell_footprint : inv; pin (a) { direction : input; capacitance : 1; } pin (o) { direction : output; max_capacitance : 8; function : \"!a\"; timing () { related_pin : a; timing_sense : negative_unate; cell_rise (t) { values (\"4, 24\"); } cell_fall (t) { values (\"4, 24\"); } rise_transition (t) { values (\"2, 12\"); } fall_transition (t) { values (\"2, 12\"); } } } } cell (I2) { cell_leakage_power : 3; cell_footprint : inv; pin (a) { direction : input; capacitance : 2; } pin (o) { direction : output; max_capacitance : 16; function : \"!a\"; timing () { related_pin : a; timing_sense : negative_unate; cell_rise (t) { values (\"4, 14\"); } cell_fall (t) { values (\"4, 14\"); } rise_transition (t) { values (\"2, 7\"); } fall_transition (t) { values (\"2, 7\"); } } } } }";
 
 /// One inverter.

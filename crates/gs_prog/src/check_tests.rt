@@ -7,6 +7,7 @@ use gs_shelf::{Bytes, FileList, NeverFails};
 use gs_top::{Words, exit_of, run};
 use std::alloc::{AllocError, Global};
 use std::test::Fail;
+use std::thread::Threads;
 
 /// The most bytes of a file, and one more.
 const TOO_LARGE: usize = 268_435_457;
@@ -138,7 +139,8 @@ fn files_of(alloc: Global, texts: &Texts) -> Result<FileList, AllocError> {
 }
 
 /// Whether a run on these files, with a file of sizes or without, ends so.
-fn ends_so(
+fn ends_so<R: Threads + Sync>(
+    rt: &R,
     alloc: Global,
     files: FileList,
     with_from: bool,
@@ -151,18 +153,19 @@ fn ends_so(
         said: Bytes::empty(alloc),
     };
     let words = check_words(alloc, with_from)?;
-    let status = run(&(), alloc, &words, &mut shelf);
+    let status = run(rt, alloc, &words, &mut shelf);
     let stored = shelf.files.get(b"n.rpt") == Some(report.as_bytes());
     Ok(exit_of(&status) == exit && stored && shelf.said.as_slice() == said.as_bytes())
 }
 
 /// Whether the run of a row ends as the row says.
-fn stands(alloc: Global, row: Row) -> Result<bool, Fail> {
+fn stands<R: Threads + Sync>(rt: &R, alloc: Global, row: Row) -> Result<bool, Fail> {
     let mut files = files_of(alloc, &texts_with(row.sdc))?;
     if let Some(from) = row.from {
         files.put(alloc, b"n.from", from.as_bytes())?;
     }
     ends_so(
+        rt,
         alloc,
         files,
         row.from.is_some(),
@@ -175,7 +178,7 @@ fn stands(alloc: Global, row: Row) -> Result<bool, Fail> {
 #[test]
 fn each_check_of_the_mixed_design(rt: HostRuntime) -> Result<(), Fail> {
     for row in rows() {
-        assert!(rt; stands(rt.alloc(), row)?, "{}", row.report);
+        assert!(rt; stands(&rt, rt.alloc(), row)?, "{}", row.report);
     }
     Ok(())
 }
@@ -186,10 +189,16 @@ fn zeros(alloc: Global, count: usize) -> Result<Vec<u8>, AllocError> {
 }
 
 /// Whether a run, in which the file of this name has these bytes, is refused with this line, and stores nothing.
-fn refuses(alloc: Global, name: &[u8], bytes: &[u8], line: &str) -> Result<bool, Fail> {
+fn refuses<R: Threads + Sync>(
+    rt: &R,
+    alloc: Global,
+    name: &[u8],
+    bytes: &[u8],
+    line: &str,
+) -> Result<bool, Fail> {
     let mut files = files_of(alloc, &texts_with(LIMITS))?;
     files.put(alloc, name, bytes)?;
-    ends_so(alloc, files, true, 3, line, "earlier")
+    ends_so(rt, alloc, files, true, 3, line, "earlier")
 }
 
 #[test]
@@ -204,7 +213,10 @@ fn each_file_is_too_large(rt: HostRuntime) -> Result<(), Fail> {
         (b"n.from", "too large from\n"),
     ];
     for (name, line) in rows {
-        assert!(rt; refuses(alloc, name, large.as_slice(), line)?, "{line}");
+        assert!(rt;
+            refuses(&rt, alloc, name, large.as_slice(), line)?,
+            "{line}"
+        );
     }
     Ok(())
 }

@@ -1,11 +1,12 @@
 //! The limits on cells, instances and nets, on texts too large for the tests of a lower crate.
 
-use gs_quantity::Mem;
+use crate::words::size_words;
 use gs_shelf::{Bytes, FileList, NeverFails};
-use gs_top::{Words, run};
+use gs_top::run;
 use itoa::Buffer;
 use std::alloc::{AllocError, Global};
 use std::test::Fail;
+use std::thread::Threads;
 
 /// A netlist without an instance.
 const EMPTY: &[u8] = b"module e; endmodule";
@@ -63,32 +64,14 @@ fn netlist_of(alloc: Global, ports: u32, insts: u32) -> Result<Vec<u8>, AllocErr
     Ok(text)
 }
 
-fn size_words(alloc: Global) -> Result<Words, Mem> {
-    let mut words = Words::new(alloc);
-    for word in [
-        "size",
-        "--lib",
-        "n.lib",
-        "--verilog",
-        "n.v",
-        "--spef",
-        "n.spef",
-        "--sdc",
-        "n.sdc",
-        "--sizes",
-        "n.sizes",
-        "--log",
-        "n.log",
-        "--report",
-        "n.rpt",
-    ] {
-        words.add(word)?;
-    }
-    Ok(words)
-}
-
 /// Whether a run on these bytes says the line.
-fn says(alloc: Global, library: &[u8], netlist: &[u8], line: &str) -> Result<bool, Fail> {
+fn says<R: Threads + Sync>(
+    rt: &R,
+    alloc: Global,
+    library: &[u8],
+    netlist: &[u8],
+    line: &str,
+) -> Result<bool, Fail> {
     let mut files = FileList::new(alloc);
     files.put(alloc, b"n.lib", library)?;
     files.put(alloc, b"n.v", netlist)?;
@@ -96,7 +79,7 @@ fn says(alloc: Global, library: &[u8], netlist: &[u8], line: &str) -> Result<boo
     files.put(alloc, b"n.sdc", b"create_clock -name k -period 1")?;
     let said = Bytes::empty(alloc);
     let mut shelf = NeverFails { files, said };
-    let _ = run(&(), alloc, &size_words(alloc)?, &mut shelf);
+    let _ = run(rt, alloc, &size_words(alloc, "0")?, &mut shelf);
     Ok(shelf.said.as_slice() == line.as_bytes())
 }
 
@@ -106,6 +89,7 @@ fn a_library_of_too_many_cells(rt: HostRuntime) -> Result<(), Fail> {
     let most = many_cells(alloc, 65_535)?;
     assert!(rt;
         says(
+            &rt,
             alloc,
             most.as_slice(),
             EMPTY,
@@ -113,7 +97,7 @@ fn a_library_of_too_many_cells(rt: HostRuntime) -> Result<(), Fail> {
         )?
     );
     let more = many_cells(alloc, 65_536)?;
-    assert!(rt; says(alloc, more.as_slice(), EMPTY, "bad library toomany\n")?);
+    assert!(rt; says(&rt, alloc, more.as_slice(), EMPTY, "bad library toomany\n")?);
     Ok(())
 }
 
@@ -124,6 +108,7 @@ fn a_design_of_too_many_instances(rt: HostRuntime) -> Result<(), Fail> {
     let more = netlist_of(alloc, 0, 2_097_152)?;
     assert!(rt;
         says(
+            &rt,
             alloc,
             cells.as_slice(),
             more.as_slice(),
@@ -140,6 +125,7 @@ fn a_design_of_too_many_nets(rt: HostRuntime) -> Result<(), Fail> {
     let more = netlist_of(alloc, 2_097_152, 2_097_151)?;
     assert!(rt;
         says(
+            &rt,
             alloc,
             cells.as_slice(),
             more.as_slice(),

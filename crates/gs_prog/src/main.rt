@@ -12,21 +12,33 @@ mod chain;
 #[cfg(test)]
 mod check_tests;
 #[cfg(test)]
+mod cone_tests;
+#[cfg(test)]
+mod generated_tests;
+#[cfg(test)]
 mod limits;
 #[cfg(test)]
 mod link_tests;
 #[cfg(test)]
 mod linked;
 #[cfg(test)]
+mod many_chains;
+#[cfg(test)]
 mod mixed;
+#[cfg(test)]
+mod numbered;
 #[cfg(test)]
 mod size_tests;
 #[cfg(test)]
 mod sizes_tests;
 #[cfg(test)]
+mod start_tests;
+#[cfg(test)]
 mod timing_tests;
 #[cfg(test)]
 mod trial_tests;
+#[cfg(test)]
+mod words;
 
 use gs_quantity::Mem;
 use gs_shelf::HostShelf;

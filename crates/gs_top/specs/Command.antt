@@ -20,7 +20,7 @@ use Rattle.gs_top.specs.Job.{input_of}
 use Rattle.gs_top.specs.Plan.{outputs_in}
 use Rattle.gs_top.specs.Recovery.{IsRecovery, budget_of}
 use Rattle.gs_top.specs.Stage.{Bytes, Stage, bytes_of}
-use Rattle.gs_top.specs.Start.{Sized, start}
+use Rattle.gs_top.specs.Start.{Sized, begun, start}
 use Rattle.gs_top.specs.declared.job.Job.{Job}
 use Rattle.gs_top.specs.declared.job.Job.TheVariants.{Size, Check}
 use Rattle.gs_top.specs.declared.job.SizeJob.{SizeJob}
@@ -61,6 +61,10 @@ size_plan d start workers l = record {
   success = run_done d (sizes_now start l.entries) (timing_of d (sizes_now start l.entries)) l;
 }
 
+-- what leakage recovery stores of a design from sizes at the start
+abbrev pub SizePlans : SizeJob → Design → (start : List ℕ) → Plan → Type 0
+SizePlans j d start plan = (l : Log) × IsRecovery d start (budget_of j.budget d) j.workers l × (plan ≡ size_plan d start j.workers l)
+
 -- the report of sizes of a design at this timing, how many limits are not met, and what the sizes leak
 abbrev pub check_plan : Design → List ℕ → List NetTime → Plan
 check_plan d s t = record {
@@ -74,7 +78,7 @@ size j = record {
   Made = Sized;
   work = start j.from;
   outputs = Sizes ∷ LogFile ∷ Report ∷ [];
-  plans = λ m plan. (d : Design) × (parts_of d ≡ m.parts) × (l : Log) × IsRecovery d m.sizes (budget_of j.budget d) j.workers l × (plan ≡ size_plan d m.sizes j.workers l);
+  plans = λ m plan. (d : Design) × (parts_of d ≡ m.parts) × SizePlans j d (begun j.from j.passes d m.sizes) plan;
   succeeds = λ s. (ended : Ended) × (violations : ℕ) × (leakage : ℤ) × (commits : ℕ) × (s ≡ Done ended violations leakage commits);
 }
 

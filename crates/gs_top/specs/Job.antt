@@ -1,11 +1,13 @@
 -- The form of a command's words, and the job that they make.
-use Rattle.std.specs.Prelude.{◌≡◌, ℕ, Bool, true, false, not, ◌&&◌, ◌||◌, ◌++◌, ◌==◌, List, [], ◌∷◌, Option, Some, None, Result, Ok, Err, length, codes, if◌then◌else◌}
+use Rattle.std.specs.Prelude.{◌≡◌, ℕ, ◌+◌, ◌*◌, ◌-◌, Bool, true, false, not, ◌&&◌, ◌||◌, ◌++◌, ◌==◌, nat_le, List, [], ◌∷◌, fold, Option, Some, None, unwrap_or, Result, Ok, Err, length, codes, if◌then◌else◌}
 use Rattle.std.specs.List.{list_any}
-use Rattle.std.specs.Str.{bytes_eq}
+use Rattle.std.specs.Option.{is_some}
+use Rattle.std.specs.Str.{all_ascii_digits, bytes_eq}
 use Rattle.gs_top.specs.declared.job.Job.{Job}
 use Rattle.gs_top.specs.declared.job.Job.TheVariants.{Size, Check}
 use Rattle.gs_top.specs.declared.job.CheckJob.{CheckJob}
 use Rattle.gs_top.specs.declared.job.SizeJob.{SizeJob}
+use Rattle.gs_top.specs.declared.job.TheConstants.{MOST_PASSES}
 use Rattle.gs_top.specs.declared.read.WordsErr.{WordsErr}
 use Rattle.gs_top.specs.declared.read.WordsErr.TheVariants.{Usage, Mem}
 use Rattle.gs_top.specs.declared.status.Input.{Input}
@@ -15,7 +17,7 @@ use Rattle.gs_top.specs.declared.status.Output.TheVariants.{Sizes, Log, Report, 
 
 -- the options of `size`, in the order in which its words give them
 abbrev pub size_options : List (List ℕ)
-size_options = codes "--lib" ∷ codes "--verilog" ∷ codes "--spef" ∷ codes "--sdc" ∷ codes "--sizes" ∷ codes "--log" ∷ codes "--report" ∷ []
+size_options = codes "--lib" ∷ codes "--verilog" ∷ codes "--spef" ∷ codes "--sdc" ∷ codes "--sizes" ∷ codes "--log" ∷ codes "--report" ∷ codes "--passes" ∷ []
 
 -- the options of `check`, after which `--from` may stand
 abbrev pub check_options : List (List ℕ)
@@ -32,7 +34,30 @@ abbrev pub value_of : (option : List ℕ) → (words : List (List ℕ)) → List
 value_of option (w ∷ value ∷ ws) = if bytes_eq w option then value else value_of option ws
 value_of option _ = []
 
--- from the sizes of the netlist, without workers, without passes, and with as many entries as any run needs
+-- the number that decimal digits write
+abbrev pub with_digit : ℕ → ℕ → ℕ
+with_digit n digit = n * 10 + (digit - 48)
+
+abbrev pub number_in : List ℕ → ℕ
+number_in digits = fold with_digit 0 digits
+
+-- a number that is not above the most
+abbrev pub if_within : (most : ℕ) → (is_number : Bool) → ℕ → Option ℕ
+if_within most is_number n = if is_number && nat_le n most then Some n else None
+
+-- the number that a word writes: one or more digits and nothing else
+abbrev pub number_of : (most : ℕ) → List ℕ → Option ℕ
+number_of most word = if_within most (not (length word == 0) && all_ascii_digits word) (number_in word)
+
+-- how many passes the words after `size` ask for, where their number is in its range
+abbrev pub passes_of : List (List ℕ) → Option ℕ
+passes_of words = number_of MOST_PASSES (value_of (codes "--passes") words)
+
+-- the words after `size` have its form
+abbrev pub has_size_form : List (List ℕ) → Bool
+has_size_form words = are_given size_options words && is_some (passes_of words)
+
+-- without a file of sizes, without workers, and with as many entries as any run needs
 abbrev pub size_with : List (List ℕ) → SizeJob
 size_with words = record {
   lib = value_of (codes "--lib") words;
@@ -44,7 +69,7 @@ size_with words = record {
   report = value_of (codes "--report") words;
   from = None;
   workers = 0;
-  passes = 0;
+  passes = unwrap_or (passes_of words) 0;
   budget = None;
 }
 
@@ -85,9 +110,9 @@ abbrev pub names_of : Job → List (List ℕ)
 names_of (Size j) = j.lib ∷ j.verilog ∷ j.spef ∷ j.sdc ∷ j.sizes ∷ j.log ∷ j.report ∷ name_if_given j.from
 names_of (Check j) = j.lib ∷ j.verilog ∷ j.spef ∷ j.sdc ∷ j.report ∷ name_if_given j.from
 
--- its numbers are ones that stand yet: no workers and no passes
+-- its numbers are in their ranges: no workers yet, and at most so many passes
 abbrev pub has_numbers : Job → Bool
-has_numbers (Size j) = (j.workers == 0) && (j.passes == 0)
+has_numbers (Size j) = (j.workers == 0) && nat_le j.passes MOST_PASSES
 has_numbers (Check j) = true
 
 -- the condition of a job
@@ -96,7 +121,7 @@ is_good job = has_numbers job && are_names (names_of job)
 
 -- the words after the command `size` make a job
 abbrev pub is_size : List (List ℕ) → Bool
-is_size words = are_given size_options words && is_good (Size (size_with words))
+is_size words = has_size_form words && is_good (Size (size_with words))
 
 abbrev pub size_of : List (List ℕ) → Option Job
 size_of words = if is_size words then Some (Size (size_with words)) else None

@@ -1,7 +1,9 @@
 -- The sizes that a command starts from: those of a file, or those of the netlist.
 use Rattle.std.specs.Prelude.{ℕ, List, map, Option, None, Some}
 use Rattle.gs_design.specs.Insts.{inst_first}
+use Rattle.gs_design.specs.declared.design.Design.{Design}
 use Rattle.gs_design.specs.declared.parts.Parts.{Parts}
+use Rattle.gs_lagrange.specs.Start.{start_of}
 use Rattle.gs_sizes.specs.Refusal as sizes
 use Rattle.gs_sizes.specs.Sizes.{IsSizes}
 use Rattle.gs_sizes.specs.declared.error.SizesErr.TheVariants as sizes_err
@@ -22,6 +24,12 @@ from_text p = read_file From (IsSizes p) (SizesCause p)
 abbrev pub start_in : Option (List ℕ) → Parts → Stage (List ℕ)
 start_in None p = give (map inst_first p.insts)
 start_in (Some name) p = from_text p
+
+-- The sizes at which a run of `size` begins, from those that were read: a file's stay, and without a file as many passes as the job says
+-- choose them, beginning with the netlist's.
+abbrev pub begun : Option (List ℕ) → (passes : ℕ) → Design → List ℕ → List ℕ
+begun None passes d s = start_of d passes
+begun (Some name) passes d s = s
 
 -- a design, and sizes of it
 pub record Sized : Type 0 where

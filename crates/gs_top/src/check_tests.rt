@@ -12,6 +12,7 @@ use gs_quantity::Micro;
 use gs_shelf::{Bytes, Failures, FileList, MemShelf, NeverFails, Numbers};
 use std::alloc::Global;
 use std::test::Fail;
+use std::thread::Threads;
 
 /// One small inverter.
 const SMALL: &str = "module b (x, z); input x; output z; I1 g1 (.a(x), .o(z)); endmodule";
@@ -210,13 +211,13 @@ fn files_of(alloc: Global, row: Row) -> Result<FileList, Fail> {
 }
 
 /// Whether the run of a row ends as the row says, over a shelf without faults, and leaves the file of sizes of an earlier run.
-fn ends_so(alloc: Global, row: Row) -> Result<bool, Fail> {
+fn ends_so<R: Threads + Sync>(rt: &R, alloc: Global, row: Row) -> Result<bool, Fail> {
     let mut shelf = NeverFails {
         files: files_of(alloc, row)?,
         said: Bytes::empty(alloc),
     };
     let words = check_words(alloc, row.from.is_some())?;
-    let status = run(&(), alloc, &words, &mut shelf);
+    let status = run(rt, alloc, &words, &mut shelf);
     let report = shelf.files.get(b"n.rpt") == Some(row.report.as_bytes());
     let said = shelf.said.as_slice() == row.said.as_bytes();
     let sizes = shelf.files.get(b"n.sizes") == Some(b"before".as_slice());
@@ -226,10 +227,10 @@ fn ends_so(alloc: Global, row: Row) -> Result<bool, Fail> {
 #[test]
 fn sizes_are_judged(rt: HostRuntime) -> Result<(), Fail> {
     for row in netlist_sizes() {
-        assert!(rt; ends_so(rt.alloc(), row)?, "{}", row.report);
+        assert!(rt; ends_so(&rt, rt.alloc(), row)?, "{}", row.report);
     }
     for row in given_sizes() {
-        assert!(rt; ends_so(rt.alloc(), row)?, "{}", row.report);
+        assert!(rt; ends_so(&rt, rt.alloc(), row)?, "{}", row.report);
     }
     Ok(())
 }
@@ -237,16 +238,22 @@ fn sizes_are_judged(rt: HostRuntime) -> Result<(), Fail> {
 #[test]
 fn each_refusal(rt: HostRuntime) -> Result<(), Fail> {
     for row in refused_sizes() {
-        assert!(rt; ends_so(rt.alloc(), row)?, "{}", row.said);
+        assert!(rt; ends_so(&rt, rt.alloc(), row)?, "{}", row.said);
     }
     for row in refused_files() {
-        assert!(rt; ends_so(rt.alloc(), row)?, "{}", row.said);
+        assert!(rt; ends_so(&rt, rt.alloc(), row)?, "{}", row.said);
     }
     Ok(())
 }
 
 /// The chain with sizes whose call number `k` fails: the status, where what was said and the report are these.
-fn fails_so(alloc: Global, k: u64, said: &str, report: &str) -> Result<Option<Status>, Fail> {
+fn fails_so<R: Threads + Sync>(
+    rt: &R,
+    alloc: Global,
+    k: u64,
+    said: &str,
+    report: &str,
+) -> Result<Option<Status>, Fail> {
     let row = sized("g1 I1\ng2 I1\n", "", "");
     let mut shelf = MemShelf {
         files: files_of(alloc, row)?,
@@ -257,15 +264,21 @@ fn fails_so(alloc: Global, k: u64, said: &str, report: &str) -> Result<Option<St
         most: 100_000,
     };
     let words = check_words(alloc, true)?;
-    let status = run(&(), alloc, &words, &mut shelf);
+    let status = run(rt, alloc, &words, &mut shelf);
     let stands = shelf.said.as_slice() == said.as_bytes()
         && shelf.files.get(b"n.rpt") == Some(report.as_bytes());
     Ok(if stands { Some(status) } else { None })
 }
 
 /// Whether a failing call of this number is told as a file that could not be read.
-fn is_unread(alloc: Global, k: u64, said: &str, wanted: Input) -> Result<bool, Fail> {
-    let ended = fails_so(alloc, k, said, "earlier")?;
+fn is_unread<R: Threads + Sync>(
+    rt: &R,
+    alloc: Global,
+    k: u64,
+    said: &str,
+    wanted: Input,
+) -> Result<bool, Fail> {
+    let ended = fails_so(rt, alloc, k, said, "earlier")?;
     Ok(match ended {
         Some(Status::ReadFault { file }) => file == wanted,
         _ => false,
@@ -282,9 +295,9 @@ fn each_fetch_fails(rt: HostRuntime) -> Result<(), Fail> {
         (8, "cannot read from\n", Input::From),
     ];
     for (k, said, file) in rows {
-        assert!(rt; is_unread(rt.alloc(), k, said, file)?, "failing {k}");
+        assert!(rt; is_unread(&rt, rt.alloc(), k, said, file)?, "failing {k}");
         assert!(rt;
-            is_unread(rt.alloc(), k + 1, said, file)?,
+            is_unread(&rt, rt.alloc(), k + 1, said, file)?,
             "failing one later"
         );
     }
@@ -295,7 +308,7 @@ fn each_fetch_fails(rt: HostRuntime) -> Result<(), Fail> {
 fn the_store_and_the_line_fail(rt: HostRuntime) -> Result<(), Fail> {
     let alloc = rt.alloc();
     let report = "gate-sizing-report 1\nleakage 2.000000 1uW\nviolations 0\n";
-    let store = fails_so(alloc, 10, "cannot write report\n", "earlier")?;
+    let store = fails_so(&rt, alloc, 10, "cannot write report\n", "earlier")?;
     assert!(rt;
         matches!(
             store,
@@ -304,7 +317,7 @@ fn the_store_and_the_line_fail(rt: HostRuntime) -> Result<(), Fail> {
             })
         )
     );
-    let line = fails_so(alloc, 11, "", report)?;
+    let line = fails_so(&rt, alloc, 11, "", report)?;
     assert!(rt;
         matches!(
             line,
@@ -313,7 +326,13 @@ fn the_store_and_the_line_fail(rt: HostRuntime) -> Result<(), Fail> {
             })
         )
     );
-    let whole = fails_so(alloc, 12, "checked leakage 2.000000 violations 0\n", report)?;
+    let whole = fails_so(
+        &rt,
+        alloc,
+        12,
+        "checked leakage 2.000000 violations 0\n",
+        report,
+    )?;
     assert!(rt;
         matches!(
             whole,
@@ -327,18 +346,19 @@ fn the_store_and_the_line_fail(rt: HostRuntime) -> Result<(), Fail> {
 }
 
 /// The status of `check` with these words over no files.
-fn status_of(alloc: Global, texts: &[&str]) -> Result<Status, Fail> {
+fn status_of<R: Threads + Sync>(rt: &R, alloc: Global, texts: &[&str]) -> Result<Status, Fail> {
     let mut shelf = NeverFails {
         files: FileList::new(alloc),
         said: Bytes::empty(alloc),
     };
-    Ok(run(&(), alloc, &words_of(alloc, texts)?, &mut shelf))
+    Ok(run(rt, alloc, &words_of(alloc, texts)?, &mut shelf))
 }
 
 /// The status after words of `check` that end with these.
-fn status_with(alloc: Global, tail: [&str; 4]) -> Result<Status, Fail> {
+fn status_with<R: Threads + Sync>(rt: &R, alloc: Global, tail: [&str; 4]) -> Result<Status, Fail> {
     let [first, second, third, fourth] = tail;
     status_of(
+        rt,
         alloc,
         &[
             "check",
@@ -370,10 +390,11 @@ fn words_of_no_job(rt: HostRuntime) -> Result<(), Fail> {
         ["--report", "e", "--sizes", "f"],
     ];
     for row in rows {
-        let status = status_with(alloc, row)?;
+        let status = status_with(&rt, alloc, row)?;
         assert!(rt; matches!(status, Status::Usage), "{} {}", row[0], row[2]);
     }
     let short = status_of(
+        &rt,
         alloc,
         &[
             "check",
@@ -388,7 +409,7 @@ fn words_of_no_job(rt: HostRuntime) -> Result<(), Fail> {
         ],
     )?;
     assert!(rt; matches!(short, Status::Usage));
-    let good = status_with(alloc, ["--report", "e", "--from", "f"])?;
+    let good = status_with(&rt, alloc, ["--report", "e", "--from", "f"])?;
     assert!(rt;
         matches!(
             good,

@@ -45,6 +45,7 @@ mod line;
 mod link;
 mod name;
 mod netlist;
+mod number;
 mod options;
 mod plan;
 mod program;
@@ -62,7 +63,7 @@ mod tests;
 mod wires;
 mod words;
 
-pub use job::{CheckJob, Job, SizeJob};
+pub use job::{CheckJob, Job, MOST_PASSES, SizeJob};
 pub use law::{each_job_is_decided, each_size_is_the_netlists};
 pub use name::Name;
 pub use program::{run, run_check, run_size_alone};

@@ -6,6 +6,7 @@ use crate::status::exit_of;
 use gs_shelf::{Bytes, FileList, NeverFails};
 use std::alloc::{AllocError, Global};
 use std::test::Fail;
+use std::thread::Threads;
 
 /// What stands after the name of an inverter.
 const INVERTER: &[u8] =
@@ -26,7 +27,8 @@ fn shelf_of(alloc: Global, library: &[u8], netlist: &[u8]) -> Result<NeverFails,
 }
 
 /// Whether a run on these bytes ends with these texts and with a limit that isn't met.
-fn writes(
+fn writes<R: Threads + Sync>(
+    rt: &R,
     alloc: Global,
     library: &[u8],
     netlist: &[u8],
@@ -34,7 +36,7 @@ fn writes(
     report: &[u8],
 ) -> Result<bool, Fail> {
     let mut shelf = shelf_of(alloc, library, netlist)?;
-    let status = run(&(), alloc, &size_words(alloc)?, &mut shelf);
+    let status = run(rt, alloc, &size_words(alloc)?, &mut shelf);
     let same_sizes = shelf.files.get(b"n.sizes") == Some(sizes);
     let same_report = shelf.files.get(b"n.rpt") == Some(report);
     Ok(exit_of(&status) == 1 && same_sizes && same_report)
@@ -62,6 +64,7 @@ fn names_of_300_bytes_and_a_unit_of_16(rt: HostRuntime) -> Result<(), Fail> {
         b"gate-sizing-report 1\nended settled\nentries 0\nbudget 1\ncommits 0\nworker 0 commits 0\nleakage 1.000000 1234567890abcdef\nviolations 1\nsetup z held 4.000000 bound 1.000000\n";
     assert!(rt;
         writes(
+            &rt,
             alloc,
             library.as_slice(),
             netlist.as_slice(),
@@ -89,9 +92,14 @@ fn nested(alloc: Global, inner: u32) -> Result<Vec<u8>, AllocError> {
 }
 
 /// Whether a run on this library says the line.
-fn says(alloc: Global, library: &[u8], line: &str) -> Result<bool, Fail> {
+fn says<R: Threads + Sync>(
+    rt: &R,
+    alloc: Global,
+    library: &[u8],
+    line: &str,
+) -> Result<bool, Fail> {
     let mut shelf = shelf_of(alloc, library, b"module e (a); input a; endmodule")?;
-    let _ = run(&(), alloc, &size_words(alloc)?, &mut shelf);
+    let _ = run(rt, alloc, &size_words(alloc)?, &mut shelf);
     Ok(shelf.said.as_slice() == line.as_bytes())
 }
 
@@ -101,12 +109,13 @@ fn a_library_of_too_deep_groups(rt: HostRuntime) -> Result<(), Fail> {
     let most = nested(alloc, 63)?;
     assert!(rt;
         says(
+            &rt,
             alloc,
             most.as_slice(),
             "done settled leakage 0.000000 violations 0 commits 0\n"
         )?
     );
     let more = nested(alloc, 64)?;
-    assert!(rt; says(alloc, more.as_slice(), "bad library toodeep at 271\n")?);
+    assert!(rt; says(&rt, alloc, more.as_slice(), "bad library toodeep at 271\n")?);
     Ok(())
 }

@@ -19,6 +19,7 @@ use crate::store::store_plan;
 use crate::words::Words;
 use gs_shelf::{Shelf, ShelfErr};
 use std::alloc::Global;
+use std::thread::Threads;
 
 /// The status where its line could not be said for a fault of the console: a success is lost, another status stays.
 fn unsaid(status: Status) -> Status
@@ -68,7 +69,12 @@ fn say<H: Shelf>(alloc: Global, shelf: &mut H, status: Status) -> Status
 }
 
 /// Does the work of `size`, and says nothing.
-fn act_size<R, H: Shelf>(rt: &R, alloc: Global, shelf: &mut H, job: &SizeJob) -> Status
+fn act_size<R: Threads + Sync, H: Shelf>(
+    rt: &R,
+    alloc: Global,
+    shelf: &mut H,
+    job: &SizeJob,
+) -> Status
     requires { is_good (Job.Size job.now) ≡ true }
     ensures { Acts H.tells (Job.Size job.now) (seen (H.files shelf.old) (H.said shelf.old) (H.faults shelf.old)) (seen (H.files shelf.new) (H.said shelf.new) (H.faults shelf.new)) result }
 {
@@ -90,13 +96,18 @@ fn act_check<H: Shelf>(alloc: Global, shelf: &mut H, job: &CheckJob) -> Status
 }
 
 /// Runs `size` without workers: reads the library, the netlist, the wires and the constraints, links them, and recovers leakage from the
-/// sizes at the start, which are the netlist's where the job names no file of them. It stores the sizes, the log and the report and says
+/// sizes at the start, which passes choose where the job names no file of them. It stores the sizes, the log and the report and says
 /// `done`, how the run ended, the leakage, how many limits the sizes don't meet and how many moves were committed. The first refusal ends
 /// the work. It waits for nobody.
 ///
 /// What the log says is `IsRecovery` (`specs/Recovery.antt`), and what the sizes and the report are of it `size_plan` (`specs/Command.antt`).
-pub fn run_size_alone<R, H: Shelf>(rt: &R, alloc: Global, job: &SizeJob, shelf: &mut H) -> Status
-    // No name is empty, and all differ; there are no workers and no passes.
+pub fn run_size_alone<R: Threads + Sync, H: Shelf>(
+    rt: &R,
+    alloc: Global,
+    job: &SizeJob,
+    shelf: &mut H,
+) -> Status
+    // No name is empty, and all differ; there are no workers, and at most 64 passes.
     requires { is_good (Job.Size job.now) ≡ true }
     // What the files hold after each status, as far as the shelf tells; and which files stay, on every shelf.
     ensures leaves { JobLeaves H.tells (Job.Size job.now) (H.files shelf.old) (H.files shelf.new) result }
@@ -143,7 +154,7 @@ pub fn run_check<R, H: Shelf>(_rt: &R, alloc: Global, job: &CheckJob, shelf: &mu
 }
 
 /// Does what a job is to do, and says the line of its status.
-fn run_job<R, H: Shelf>(rt: &R, alloc: Global, job: &Job, shelf: &mut H) -> Status
+fn run_job<R: Threads + Sync, H: Shelf>(rt: &R, alloc: Global, job: &Job, shelf: &mut H) -> Status
     requires { is_good job.now ≡ true }
     ensures { Ran H.tells (Some job.now) (seen (H.files shelf.old) (H.said shelf.old) (H.faults shelf.old)) (seen (H.files shelf.new) (H.said shelf.new) (H.faults shelf.new)) result }
 {
@@ -163,7 +174,12 @@ fn words_status(error: WordsErr) -> Status
 }
 
 /// Does what the words ask for, and says the line of its status.
-fn run_words<R, H: Shelf>(rt: &R, alloc: Global, words: &Words, shelf: &mut H) -> Status
+fn run_words<R: Threads + Sync, H: Shelf>(
+    rt: &R,
+    alloc: Global,
+    words: &Words,
+    shelf: &mut H,
+) -> Status
     ensures { Ran H.tells (job_of words.now) (seen (H.files shelf.old) (H.said shelf.old) (H.faults shelf.old)) (seen (H.files shelf.new) (H.said shelf.new) (H.faults shelf.new)) result }
 {
     match read_words(alloc, words) {
@@ -176,7 +192,12 @@ fn run_words<R, H: Shelf>(rt: &R, alloc: Global, words: &Words, shelf: &mut H) -
 ///
 /// The words come first, then the command's files in their order and what they make; all texts are made before the first store, the
 /// sizes are stored before the report, and the line is said last. The first refusal ends the work. The shelf stays the caller's.
-pub fn run<R, H: Shelf>(rt: &R, alloc: Global, words: &Words, shelf: &mut H) -> Status
+pub fn run<R: Threads + Sync, H: Shelf>(
+    rt: &R,
+    alloc: Global,
+    words: &Words,
+    shelf: &mut H,
+) -> Status
     // What the files hold after each status, as far as the shelf tells; and which files stay, on every shelf.
     ensures leaves { Leaves H.tells words.now (H.files shelf.old) (H.files shelf.new) result }
     // What stands behind each status, on every shelf.

@@ -1,10 +1,11 @@
 //! Reading a command's words.
 ghost use Rattle.std.specs.Prelude.{◌≡◌, true, IfOk, map, string_bytes};
-ghost use Rattle.gs_top.specs.Job.{check_from, check_of, check_with, has_check_form, has_from, is_check, is_good, is_size, job_of, size_of, size_with, IsRead};
+ghost use Rattle.gs_top.specs.Job.{are_names, check_from, check_of, check_with, has_check_form, has_from, has_size_form, is_check, is_good, is_size, job_of, size_of, size_with, names_of, passes_of, IsRead};
 ghost use Rattle.gs_top.specs.declared.job.Job.{Job};
 
-use crate::job::{CheckJob, Job, SizeJob};
+use crate::job::{CheckJob, Job, MOST_PASSES, SizeJob};
 use crate::name::Name;
+use crate::number::number_of;
 use crate::options::{are_given, are_names, value_of};
 use crate::words::Words;
 use gs_quantity::Mem;
@@ -17,6 +18,13 @@ pub enum WordsErr {
     Usage,
     /// Memory for the names ran out.
     Mem,
+}
+
+/// How many passes the words after `size` ask for, where their number is in its range.
+fn passes_of(words: &[String]) -> Option<u32>
+    ensures { result ≡ passes_of (map string_bytes words.now) }
+{
+    number_of(MOST_PASSES, value_of(words, "--passes"))
 }
 
 /// The values of the options of `size`.
@@ -33,14 +41,14 @@ fn copy_names(alloc: Global, words: &[String]) -> Result<SizeJob, Mem>
         report: Name::copy_of(alloc, value_of(words, "--report"))?,
         from: None,
         workers: 0,
-        passes: 0,
+        passes: passes_of(words).unwrap_or(0),
         budget: None,
     })
 }
 
 /// Whether the values of the options of `size` are names of files, no two the same.
 fn has_names(words: &[String]) -> bool
-    ensures { result ≡ is_good (Job.Size (size_with (map string_bytes words.now))) }
+    ensures { result ≡ are_names (names_of (Job.Size (size_with (map string_bytes words.now)))) }
 {
     are_names(&[
         value_of(words, "--lib"),
@@ -53,9 +61,9 @@ fn has_names(words: &[String]) -> bool
     ])
 }
 
-/// Whether these are the words after `size` of a good job.
-fn is_size(words: &[String]) -> bool
-    ensures { result ≡ is_size (map string_bytes words.now) }
+/// Whether the words after `size` have its form.
+fn has_size_form(words: &[String]) -> bool
+    ensures { result ≡ has_size_form (map string_bytes words.now) }
 {
     are_given(
         &[
@@ -66,9 +74,17 @@ fn is_size(words: &[String]) -> bool
             "--sizes",
             "--log",
             "--report",
+            "--passes",
         ],
         words,
-    ) && has_names(words)
+    ) && passes_of(words).is_some()
+}
+
+/// Whether these are the words after `size` of a good job.
+fn is_size(words: &[String]) -> bool
+    ensures { result ≡ is_size (map string_bytes words.now) }
+{
+    has_size_form(words) && has_names(words)
 }
 
 /// The job of the words after `size`.

@@ -126,9 +126,24 @@ pub(crate) fn form_of(
     let mut words = words_of(alloc, &[command, "--lib", lib, "--verilog", verilog])?;
     for text in [
         "--spef", spef, "--sdc", sdc, "--sizes", sizes, "--log", log, "--report", report,
+        "--passes", "0",
     ] {
         words.add(text)?;
     }
+    Ok(words)
+}
+
+/// The words of `size` with this number of passes.
+pub(crate) fn words_with_passes(alloc: Global, passes: &str) -> Result<Words, Mem> {
+    let mut words = words_of(alloc, &["size", "--lib", "n.lib", "--verilog", "n.v"])?;
+    for text in [
+        "--spef", "n.spef", "--sdc", "n.sdc", "--sizes", "n.sizes", "--log", "n.log", "--report",
+        "n.rpt",
+    ] {
+        words.add(text)?;
+    }
+    words.add("--passes")?;
+    words.add(passes)?;
     Ok(words)
 }
 

@@ -4,11 +4,10 @@ ghost use Rattle.gs_design.specs.Sizes.{FitSizes};
 ghost use Rattle.gs_design.specs.Timing.{timing_of};
 ghost use Rattle.gs_move.specs.Entries.{AreEntriesOf};
 ghost use Rattle.gs_move.specs.State.{sizes_now};
-ghost use Rattle.gs_report.specs.declared.run.Log.{Log as LogOf};
 ghost use Rattle.gs_top.specs.Answer.{seen};
-ghost use Rattle.gs_top.specs.Command.{Prepares, command_of, run_done, run_texts, size_plan};
+ghost use Rattle.gs_top.specs.Command.{Prepares, SizePlans, command_of, run_done, run_texts};
 ghost use Rattle.gs_top.specs.Job.{input_of, is_good};
-ghost use Rattle.gs_top.specs.Recovery.{IsRecovery, budget_of};
+ghost use Rattle.gs_top.specs.Start.{begun};
 ghost use Rattle.gs_top.specs.declared.job.Job.{Job};
 
 use crate::from::load_start;
@@ -19,6 +18,7 @@ use crate::recovery::recover;
 use crate::status::{Output, Status};
 use gs_book::Book;
 use gs_design::{Design, Sizes};
+use gs_lagrange::start;
 use gs_limits::{leakage, violations};
 use gs_move::{Recovery, delta_is_exact, moves_fit};
 use gs_quantity::Mem;
@@ -26,6 +26,7 @@ use gs_report::{Log, Ran, write_log, write_report};
 use gs_shelf::Shelf;
 use gs_sizes::write_sizes;
 use std::alloc::Global;
+use std::thread::Threads;
 
 /// The status of a run: how it ended, and what its sizes are worth.
 fn done(alloc: Global, book: &Book<Recovery>, log: &Log) -> Result<Status, Mem>
@@ -70,7 +71,7 @@ fn texts_of(alloc: Global, book: &Book<Recovery>, log: &Log, workers: u32) -> Re
 }
 
 /// What a run from these sizes stores.
-fn plan_size<R>(
+fn plan_size<R: Threads + Sync>(
     rt: &R,
     alloc: Global,
     job: &SizeJob,
@@ -79,7 +80,7 @@ fn plan_size<R>(
 ) -> Result<Plan, Mem>
     requires start { FitSizes design start }
     requires workers { job.now.workers ≡ 0 }
-    ensures { IfOk result (λ plan. (l : LogOf) × IsRecovery design start (budget_of job.now.budget design) job.now.workers l × (plan ≡ size_plan design start job.now.workers l)) }
+    ensures { IfOk result (SizePlans job.now design start) }
 {
     let (book, log) = recover(rt, alloc, design, start, job.budget)?;
     let texts = texts_of(alloc, &book, &log, job.workers)?;
@@ -87,8 +88,42 @@ fn plan_size<R>(
     Ok(Plan { texts, success })
 }
 
+/// The sizes at which a run begins, from those that were read.
+fn begun<R: Threads + Sync>(
+    rt: &R,
+    alloc: Global,
+    job: &SizeJob,
+    design: &Design,
+    read: Sizes,
+) -> Result<Sizes, Mem>
+    requires { FitSizes design.now read }
+    ensures value { IfOk result (λ s. s ≡ begun job.now.from job.now.passes design.now read) }
+    ensures fit { IfOk result (FitSizes design.now) }
+{
+    match &job.from {
+        Some(_) => Ok(read),
+        None => start(rt, alloc, design, job.passes),
+    }
+}
+
+/// What a run stores, of the sizes that were read.
+fn plan_job<R: Threads + Sync>(
+    rt: &R,
+    alloc: Global,
+    job: &SizeJob,
+    design: Design,
+    read: Sizes,
+) -> Result<Plan, Mem>
+    requires start { FitSizes design read }
+    requires workers { job.now.workers ≡ 0 }
+    ensures { IfOk result (SizePlans job.now design (begun job.now.from job.now.passes design read)) }
+{
+    let start = begun(rt, alloc, job, &design, read)?;
+    plan_size(rt, alloc, job, design, start)
+}
+
 /// Reads the files of a job, sizes the design, and makes all texts.
-pub(crate) fn prepare_size<R, H: Shelf>(
+pub(crate) fn prepare_size<R: Threads + Sync, H: Shelf>(
     rt: &R,
     alloc: Global,
     shelf: &mut H,
@@ -105,7 +140,7 @@ pub(crate) fn prepare_size<R, H: Shelf>(
         Ok(start) => start,
         Err(status) => return Err(status),
     };
-    match plan_size(rt, alloc, job, design, start) {
+    match plan_job(rt, alloc, job, design, start) {
         Ok(plan) => Ok(plan),
         Err(_) => Err(Status::OutOfMemory),
     }

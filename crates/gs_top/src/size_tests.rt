@@ -9,6 +9,7 @@ use crate::status::exit_of;
 use gs_shelf::{Bytes, NeverFails};
 use std::alloc::Global;
 use std::test::Fail;
+use std::thread::Threads;
 
 /// A leakage of less than a millionth is rounded.
 const LITTLE: &str = "library (l) { time_unit : \"1ps\"; capacitive_load_unit (1, ff);
@@ -167,30 +168,30 @@ fn stands_so(shelf: &NeverFails, row: &Row) -> bool {
 }
 
 /// Whether the run of a row ends as the row says.
-fn ends_so(alloc: Global, row: Row) -> Result<bool, Fail> {
+fn ends_so<R: Threads + Sync>(rt: &R, alloc: Global, row: Row) -> Result<bool, Fail> {
     let mut shelf = NeverFails {
         files: files_with(alloc, row.texts)?,
         said: Bytes::empty(alloc),
     };
-    let status = run(&(), alloc, &size_words(alloc)?, &mut shelf);
+    let status = run(rt, alloc, &size_words(alloc)?, &mut shelf);
     Ok(exit_of(&status) == row.exit && stands_so(&shelf, &row))
 }
 
 #[test]
 fn each_success(rt: HostRuntime) -> Result<(), Fail> {
-    assert!(rt; ends_so(rt.alloc(), chain())?);
-    assert!(rt; ends_so(rt.alloc(), nothing_to_size())?);
-    assert!(rt; ends_so(rt.alloc(), no_alternatives())?);
-    assert!(rt; ends_so(rt.alloc(), path())?);
-    assert!(rt; ends_so(rt.alloc(), limits_that_are_broken_from_the_start())?);
+    assert!(rt; ends_so(&rt, rt.alloc(), chain())?);
+    assert!(rt; ends_so(&rt, rt.alloc(), nothing_to_size())?);
+    assert!(rt; ends_so(&rt, rt.alloc(), no_alternatives())?);
+    assert!(rt; ends_so(&rt, rt.alloc(), path())?);
+    assert!(rt; ends_so(&rt, rt.alloc(), limits_that_are_broken_from_the_start())?);
     Ok(())
 }
 
 #[test]
 fn each_success_at_a_limit(rt: HostRuntime) -> Result<(), Fail> {
-    assert!(rt; ends_so(rt.alloc(), a_load_at_its_bound())?);
-    assert!(rt; ends_so(rt.alloc(), a_load_past_its_bound())?);
-    assert!(rt; ends_so(rt.alloc(), a_late_endpoint())?);
-    assert!(rt; ends_so(rt.alloc(), a_move_that_is_rejected())?);
+    assert!(rt; ends_so(&rt, rt.alloc(), a_load_at_its_bound())?);
+    assert!(rt; ends_so(&rt, rt.alloc(), a_load_past_its_bound())?);
+    assert!(rt; ends_so(&rt, rt.alloc(), a_late_endpoint())?);
+    assert!(rt; ends_so(&rt, rt.alloc(), a_move_that_is_rejected())?);
     Ok(())
 }

@@ -2,10 +2,12 @@
 
 ghost use Rattle.std.specs.Prelude.{◌≤◌};
 
+use crate::job::Job;
 use crate::program::run;
+use crate::read::read_words;
 use crate::samples::{
     BARE_CLOCK, CHAIN, CHAIN_DONE, CHAIN_LOG, CHAIN_REPORT, CHAIN_SIZES, CHAIN_TEXTS, ROWS, Texts,
-    files_with, form_of, size_words, words_of,
+    files_with, form_of, size_words, words_of, words_with_passes,
 };
 use crate::status::{Input, Output, Status, TextWhy, exit_of};
 use crate::words::Words;
@@ -16,6 +18,7 @@ use gs_quantity::Micro;
 use gs_shelf::{Bytes, Failures, FileList, MemShelf, NeverFails, Numbers};
 use std::alloc::{AllocError, Global};
 use std::test::Fail;
+use std::thread::Threads;
 
 /// An inverter alone, without a unit of leakage.
 const SMALL_CELL: &str = "library (l) { time_unit : \"1ps\"; capacitive_load_unit (1, ff);
@@ -258,12 +261,12 @@ fn refusals_of_nets() -> [Row; 4] {
 }
 
 /// Whether the run of a row ends as the row says, over a shelf without faults, and stores nothing.
-fn is_refused(alloc: Global, row: Row) -> Result<bool, Fail> {
+fn is_refused<R: Threads + Sync>(rt: &R, alloc: Global, row: Row) -> Result<bool, Fail> {
     let mut shelf = NeverFails {
         files: files_with(alloc, row.texts)?,
         said: Bytes::empty(alloc),
     };
-    let status = run(&(), alloc, &size_words(alloc)?, &mut shelf);
+    let status = run(rt, alloc, &size_words(alloc)?, &mut shelf);
     let sizes = shelf.files.get(b"n.sizes") == Some(b"before");
     let log = shelf.files.get(b"n.log") == Some(b"older");
     let report = shelf.files.get(b"n.rpt") == Some(b"earlier");
@@ -274,10 +277,10 @@ fn is_refused(alloc: Global, row: Row) -> Result<bool, Fail> {
 #[test]
 fn each_refusal_of_a_text(rt: HostRuntime) -> Result<(), Fail> {
     for row in refusals_of_netlists() {
-        assert!(rt; is_refused(rt.alloc(), row)?, "{}", row.said);
+        assert!(rt; is_refused(&rt, rt.alloc(), row)?, "{}", row.said);
     }
     for row in refusals_of_library_texts() {
-        assert!(rt; is_refused(rt.alloc(), row)?, "{}", row.said);
+        assert!(rt; is_refused(&rt, rt.alloc(), row)?, "{}", row.said);
     }
     Ok(())
 }
@@ -285,10 +288,10 @@ fn each_refusal_of_a_text(rt: HostRuntime) -> Result<(), Fail> {
 #[test]
 fn each_refusal_of_lines(rt: HostRuntime) -> Result<(), Fail> {
     for row in refusals_of_wires() {
-        assert!(rt; is_refused(rt.alloc(), row)?, "{}", row.said);
+        assert!(rt; is_refused(&rt, rt.alloc(), row)?, "{}", row.said);
     }
     for row in refusals_of_limits() {
-        assert!(rt; is_refused(rt.alloc(), row)?, "{}", row.said);
+        assert!(rt; is_refused(&rt, rt.alloc(), row)?, "{}", row.said);
     }
     Ok(())
 }
@@ -296,7 +299,7 @@ fn each_refusal_of_lines(rt: HostRuntime) -> Result<(), Fail> {
 #[test]
 fn each_refusal_of_a_library(rt: HostRuntime) -> Result<(), Fail> {
     for row in refusals_of_libraries() {
-        assert!(rt; is_refused(rt.alloc(), row)?, "{}", row.said);
+        assert!(rt; is_refused(&rt, rt.alloc(), row)?, "{}", row.said);
     }
     Ok(())
 }
@@ -304,18 +307,18 @@ fn each_refusal_of_a_library(rt: HostRuntime) -> Result<(), Fail> {
 #[test]
 fn each_refusal_of_a_design(rt: HostRuntime) -> Result<(), Fail> {
     for row in refusals_of_instances() {
-        assert!(rt; is_refused(rt.alloc(), row)?, "{}", row.said);
+        assert!(rt; is_refused(&rt, rt.alloc(), row)?, "{}", row.said);
     }
     for row in refusals_of_nets() {
-        assert!(rt; is_refused(rt.alloc(), row)?, "{}", row.said);
+        assert!(rt; is_refused(&rt, rt.alloc(), row)?, "{}", row.said);
     }
     Ok(())
 }
 
 /// The status of a run over a shelf of one-byte fetches.
-fn status_of(alloc: Global, texts: Texts) -> Result<Status, Fail> {
+fn status_of<R: Threads + Sync>(rt: &R, alloc: Global, texts: Texts) -> Result<Status, Fail> {
     let mut shelf = shelf_with(alloc, files_with(alloc, texts)?, &[], 1)?;
-    Ok(run(&(), alloc, &size_words(alloc)?, &mut shelf))
+    Ok(run(rt, alloc, &size_words(alloc)?, &mut shelf))
 }
 
 /// Whether the library lacks the cell of the instance of this name.
@@ -350,9 +353,9 @@ fn is_done(status: &Status) -> bool {
 #[test]
 fn statuses_byte_by_byte(rt: HostRuntime) -> Result<(), Fail> {
     let alloc = rt.alloc();
-    let done = status_of(alloc, CHAIN_TEXTS)?;
+    let done = status_of(&rt, alloc, CHAIN_TEXTS)?;
     assert!(rt; is_done(&done));
-    let text = status_of(alloc, of_library("library (l) {"))?;
+    let text = status_of(&rt, alloc, of_library("library (l) {"))?;
     assert!(rt;
         matches!(
             text,
@@ -363,22 +366,28 @@ fn statuses_byte_by_byte(rt: HostRuntime) -> Result<(), Fail> {
             }
         )
     );
-    let library = status_of(alloc, of_library("l (l) {}"))?;
+    let library = status_of(&rt, alloc, of_library("l (l) {}"))?;
     assert!(rt; matches!(library, Status::BadLibrary(LibErr::Missing { .. })));
-    let unit = status_of(alloc, of_library("library (l) {}"))?;
+    let unit = status_of(&rt, alloc, of_library("library (l) {}"))?;
     assert!(rt; matches!(unit, Status::BadLibrary(LibErr::NoUnit)));
-    let cell = status_of(alloc, of_library(SMALL_CELL))?;
+    let cell = status_of(&rt, alloc, of_library(SMALL_CELL))?;
     assert!(rt; is_unknown_cell_of(&cell, b"g1"));
-    let net = status_of(alloc, of_wires("*C_UNIT 1 FF\n*D_NET q7 1\n*END\n"))?;
+    let net = status_of(&rt, alloc, of_wires("*C_UNIT 1 FF\n*D_NET q7 1\n*END\n"))?;
     assert!(rt; is_unknown_net(&net, b"q7"));
     Ok(())
 }
 
 /// What stands after a run on the chain whose call number `k` fails.
-fn fails_so(alloc: Global, k: u64, said: &str, stored: [&str; 3]) -> Result<Option<Status>, Fail> {
+fn fails_so<R: Threads + Sync>(
+    rt: &R,
+    alloc: Global,
+    k: u64,
+    said: &str,
+    stored: [&str; 3],
+) -> Result<Option<Status>, Fail> {
     let [sizes, log, report] = stored;
     let mut shelf = shelf_with(alloc, files_with(alloc, CHAIN_TEXTS)?, &[k], 100_000)?;
-    let status = run(&(), alloc, &size_words(alloc)?, &mut shelf);
+    let status = run(rt, alloc, &size_words(alloc)?, &mut shelf);
     let stands = shelf.said.as_slice() == said.as_bytes()
         && shelf.files.get(b"n.sizes") == Some(sizes.as_bytes())
         && shelf.files.get(b"n.log") == Some(log.as_bytes())
@@ -387,8 +396,14 @@ fn fails_so(alloc: Global, k: u64, said: &str, stored: [&str; 3]) -> Result<Opti
 }
 
 /// Whether a failing call of this number is told as a file that could not be read.
-fn is_unread(alloc: Global, k: u64, said: &str, wanted: Input) -> Result<bool, Fail> {
-    let ended = fails_so(alloc, k, said, ["before", "older", "earlier"])?;
+fn is_unread<R: Threads + Sync>(
+    rt: &R,
+    alloc: Global,
+    k: u64,
+    said: &str,
+    wanted: Input,
+) -> Result<bool, Fail> {
+    let ended = fails_so(rt, alloc, k, said, ["before", "older", "earlier"])?;
     Ok(match ended {
         Some(Status::ReadFault { file }) => file == wanted,
         _ => false,
@@ -404,9 +419,9 @@ fn each_fetch_fails(rt: HostRuntime) -> Result<(), Fail> {
         (6, "cannot read sdc\n", Input::Sdc),
     ];
     for (k, said, file) in rows {
-        assert!(rt; is_unread(rt.alloc(), k, said, file)?, "failing {k}");
+        assert!(rt; is_unread(&rt, rt.alloc(), k, said, file)?, "failing {k}");
         assert!(rt;
-            is_unread(rt.alloc(), k + 1, said, file)?,
+            is_unread(&rt, rt.alloc(), k + 1, said, file)?,
             "failing one later"
         );
     }
@@ -414,14 +429,15 @@ fn each_fetch_fails(rt: HostRuntime) -> Result<(), Fail> {
 }
 
 /// Whether a failing call of this number is told as an output that could not be written.
-fn is_unwritten(
+fn is_unwritten<R: Threads + Sync>(
+    rt: &R,
     alloc: Global,
     k: u64,
     said: &str,
     stored: [&str; 3],
     wanted: Output,
 ) -> Result<bool, Fail> {
-    let ended = fails_so(alloc, k, said, stored)?;
+    let ended = fails_so(rt, alloc, k, said, stored)?;
     Ok(match ended {
         Some(Status::WriteFault { file }) => file == wanted,
         _ => false,
@@ -432,13 +448,13 @@ fn is_unwritten(
 fn each_store_fails(rt: HostRuntime) -> Result<(), Fail> {
     let alloc = rt.alloc();
     let none = ["before", "older", "earlier"];
-    let sizes = is_unwritten(alloc, 8, "cannot write sizes\n", none, Output::Sizes)?;
+    let sizes = is_unwritten(&rt, alloc, 8, "cannot write sizes\n", none, Output::Sizes)?;
     assert!(rt; sizes);
     let one = [CHAIN_SIZES, "older", "earlier"];
-    let log = is_unwritten(alloc, 9, "cannot write log\n", one, Output::Log)?;
+    let log = is_unwritten(&rt, alloc, 9, "cannot write log\n", one, Output::Log)?;
     assert!(rt; log);
     let two = [CHAIN_SIZES, CHAIN_LOG, "earlier"];
-    let report = is_unwritten(alloc, 10, "cannot write report\n", two, Output::Report)?;
+    let report = is_unwritten(&rt, alloc, 10, "cannot write report\n", two, Output::Report)?;
     assert!(rt; report);
     Ok(())
 }
@@ -447,17 +463,22 @@ fn each_store_fails(rt: HostRuntime) -> Result<(), Fail> {
 fn the_line_fails(rt: HostRuntime) -> Result<(), Fail> {
     let alloc = rt.alloc();
     let all = [CHAIN_SIZES, CHAIN_LOG, CHAIN_REPORT];
-    let console = is_unwritten(alloc, 11, "", all, Output::Console)?;
+    let console = is_unwritten(&rt, alloc, 11, "", all, Output::Console)?;
     assert!(rt; console);
-    let whole = fails_so(alloc, 12, CHAIN_DONE, all)?;
+    let whole = fails_so(&rt, alloc, 12, CHAIN_DONE, all)?;
     assert!(rt; whole.is_some_and(|status| is_done(&status)));
     Ok(())
 }
 
 /// Whether a run on a shelf with these files ends with this line and exit code 4, and stores nothing.
-fn lacks(alloc: Global, files: FileList, line: &str) -> Result<bool, Fail> {
+fn lacks<R: Threads + Sync>(
+    rt: &R,
+    alloc: Global,
+    files: FileList,
+    line: &str,
+) -> Result<bool, Fail> {
     let mut shelf = shelf_with(alloc, files, &[], 9)?;
-    let status = run(&(), alloc, &size_words(alloc)?, &mut shelf);
+    let status = run(rt, alloc, &size_words(alloc)?, &mut shelf);
     let told = shelf.said.as_slice() == line.as_bytes();
     Ok(exit_of(&status) == 4 && told && shelf.files.get(b"n.sizes").is_none())
 }
@@ -465,23 +486,23 @@ fn lacks(alloc: Global, files: FileList, line: &str) -> Result<bool, Fail> {
 #[test]
 fn files_are_missing(rt: HostRuntime) -> Result<(), Fail> {
     let alloc = rt.alloc();
-    assert!(rt; lacks(alloc, FileList::new(alloc), "cannot read library\n")?);
+    assert!(rt; lacks(&rt, alloc, FileList::new(alloc), "cannot read library\n")?);
     let mut library = FileList::new(alloc);
     library.put(alloc, b"n.lib", ROWS.as_bytes())?;
-    assert!(rt; lacks(alloc, library, "cannot read netlist\n")?);
+    assert!(rt; lacks(&rt, alloc, library, "cannot read netlist\n")?);
     let mut three = FileList::new(alloc);
     three.put(alloc, b"n.lib", ROWS.as_bytes())?;
     three.put(alloc, b"n.v", CHAIN.as_bytes())?;
     three.put(alloc, b"n.spef", b"*C_UNIT 1 FF")?;
-    assert!(rt; lacks(alloc, three, "cannot read sdc\n")?);
+    assert!(rt; lacks(&rt, alloc, three, "cannot read sdc\n")?);
     Ok(())
 }
 
 /// Whether the words make no job, also where the line can't be said.
-fn is_usage(alloc: Global, words: &Words) -> Result<bool, Fail> {
+fn is_usage<R: Threads + Sync>(rt: &R, alloc: Global, words: &Words) -> Result<bool, Fail> {
     let mut shelf = shelf_with(alloc, FileList::new(alloc), &[1], 9)?;
-    let said = run(&(), alloc, words, &mut shelf);
-    let unsaid = run(&(), alloc, words, &mut shelf);
+    let said = run(rt, alloc, words, &mut shelf);
+    let unsaid = run(rt, alloc, words, &mut shelf);
     let line = b"usage: gate-sizer size, check, audit or gen, with options\n";
     Ok(exit_of(&said) == 2 && exit_of(&unsaid) == 2 && shelf.said.as_slice() == line.as_slice())
 }
@@ -490,15 +511,57 @@ fn is_usage(alloc: Global, words: &Words) -> Result<bool, Fail> {
 fn other_words(rt: HostRuntime) -> Result<(), Fail> {
     let alloc = rt.alloc();
     let short = words_of(alloc, &["size", "--verilog", "a", "--sizes", "b"])?;
-    assert!(rt; is_usage(alloc, &short)?);
+    assert!(rt; is_usage(&rt, alloc, &short)?);
     let command = form_of(alloc, "resize", ["a", "b", "c", "d"], ["e", "f", "g"])?;
-    assert!(rt; is_usage(alloc, &command)?);
+    assert!(rt; is_usage(&rt, alloc, &command)?);
     let unnamed = form_of(alloc, "size", ["a", "b", "c", ""], ["e", "f", "g"])?;
-    assert!(rt; is_usage(alloc, &unnamed)?);
+    assert!(rt; is_usage(&rt, alloc, &unnamed)?);
     let twice = form_of(alloc, "size", ["a", "b", "c", "d"], ["e", "f", "c"])?;
-    assert!(rt; is_usage(alloc, &twice)?);
+    assert!(rt; is_usage(&rt, alloc, &twice)?);
     let log = form_of(alloc, "size", ["a", "b", "c", "d"], ["e", "e", "f"])?;
-    assert!(rt; is_usage(alloc, &log)?);
-    assert!(rt; is_usage(alloc, &Words::new(alloc))?);
+    assert!(rt; is_usage(&rt, alloc, &log)?);
+    assert!(rt; is_usage(&rt, alloc, &Words::new(alloc))?);
+    Ok(())
+}
+
+/// How many passes the words ask for.
+fn passes_of(alloc: Global, passes: &str) -> Result<u32, Fail> {
+    match read_words(alloc, &words_with_passes(alloc, passes)?) {
+        Ok(Job::Size(job)) => Ok(job.passes),
+        _ => Err(Fail::new("the words make a job of size")),
+    }
+}
+
+#[test]
+fn numbers_of_passes(rt: HostRuntime) -> Result<(), Fail> {
+    let alloc = rt.alloc();
+    assert_eq!(rt; passes_of(alloc, "0")?, 0);
+    assert_eq!(rt; passes_of(alloc, "64")?, 64);
+    assert_eq!(rt; passes_of(alloc, "000000000000000000007")?, 7);
+    for passes in ["65", "", "-1", "+1", "1.0", "x", "4294967297"] {
+        assert!(rt;
+            is_usage(&rt, alloc, &words_with_passes(alloc, passes)?)?,
+            "{passes}"
+        );
+    }
+    Ok(())
+}
+
+#[test]
+fn passes_that_are_not_given_once(rt: HostRuntime) -> Result<(), Fail> {
+    let alloc = rt.alloc();
+    let mut twice = words_with_passes(alloc, "1")?;
+    twice.add("--passes")?;
+    assert!(rt; is_usage(&rt, alloc, &twice)?);
+    twice.add("1")?;
+    assert!(rt; is_usage(&rt, alloc, &twice)?);
+    let mut none = words_of(alloc, &["size", "--lib", "n.lib", "--verilog", "n.v"])?;
+    for text in [
+        "--spef", "n.spef", "--sdc", "n.sdc", "--sizes", "n.sizes", "--log", "n.log", "--report",
+        "n.rpt",
+    ] {
+        none.add(text)?;
+    }
+    assert!(rt; is_usage(&rt, alloc, &none)?);
     Ok(())
 }

@@ -7,7 +7,7 @@ use Rattle.gs_lagrange.proofs.PlaceLaws.{same_places}
 use Rattle.gs_lagrange.proofs.pass.sizes_after.Goals as goal
 
 pub returns-clause-value : goal.returns-clause-value
-returns-clause-value c =
+returns-clause-value g c =
     let d = c.args.design.now in
     let x = c.args.state.now in
     IfOk-weaker c.replaced.result (λ s. s ≡ places_for d x.sizes x.timing (weight_in c.weigh.new.flows)) (λ s. s ≡ places_for d x.sizes x.timing (weight_of d x.sizes x.timing x.multipliers))
