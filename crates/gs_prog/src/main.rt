@@ -1,5 +1,5 @@
 //! The program `gate-sizer`: it gives the words after its name to `run`, over real files and standard output, and ends
-//! with the exit code of the status.
+//! with the exit code of the status. What `explain` makes of the status is printed on standard error; a fault there changes nothing.
 //!
 //! Nothing is decided here. Where the system does not give the words it ends with exit code 2, and where there is no
 //! memory for them with exit code 6; it prints nothing in either case.
@@ -40,11 +40,13 @@ mod trial_tests;
 #[cfg(test)]
 mod words;
 
+use gs_explain::explain;
 use gs_quantity::Mem;
 use gs_shelf::HostShelf;
 use gs_top::{Status, Words, exit_of, run};
 use std::alloc::Global;
 use std::env;
+use std::io::Write;
 use std::process::ExitCode;
 
 /// The words after the program's name.
@@ -66,5 +68,9 @@ fn main(rt: HostRuntime) -> ExitCode {
     };
     let mut shelf = HostShelf::new(alloc, &rt);
     let status = run(&rt, alloc, &words, &mut shelf);
+    let reason = shelf.reason();
+    if let Ok(text) = explain(alloc, &words, &status, reason, &mut shelf) {
+        let _fault = rt.stderr().write_all(text.as_slice());
+    }
     ExitCode::from(exit_of(&status))
 }

@@ -1,0 +1,14 @@
+pub mod Place
+pub mod Lines
+pub mod Located
+pub mod Pieces
+pub mod Wanted
+pub mod Judging
+pub mod Odd
+pub mod Said
+pub mod Spot
+pub mod Text
+pub mod Rest
+pub mod Object
+pub mod Words
+pub mod Explain
