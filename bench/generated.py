@@ -44,6 +44,7 @@ class Generated:
     """The four files of a design in a folder."""
 
     def __init__(self, folder, number, gates):
+        self.gates = gates
         made = list(gates_of(number, gates))
         inputs = [f"i{i}" for i in range(16)]
         self.files = [folder / name for name in ("cells.lib", "netlist.v", "wires.spef", "constraints.sdc")]
