@@ -172,8 +172,14 @@ fn passes_choose_smaller_cells(rt: HostRuntime) -> Result<(), Fail> {
         (0, "done spent leakage 787.000000 violations 0 commits 0\n"),
         (1, "done spent leakage 396.000000 violations 0 commits 0\n"),
         (2, "done spent leakage 348.000000 violations 0 commits 0\n"),
-        (3, "done spent leakage 343.000000 violations 0 commits 0\n"),
-        (16, "done spent leakage 343.000000 violations 0 commits 0\n"),
+        (
+            3,
+            "done settled leakage 343.000000 violations 0 commits 0\n",
+        ),
+        (
+            16,
+            "done settled leakage 343.000000 violations 0 commits 0\n",
+        ),
     ];
     for (passes, said) in rows {
         assert!(rt;
