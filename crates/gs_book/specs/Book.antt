@@ -15,6 +15,8 @@ use Rattle.gs_move.specs.Settle.{last_commit}
 use Rattle.gs_move.specs.State.{sizes_at, sizes_now}
 use Rattle.gs_move.specs.Trial.{trial_of}
 use Rattle.gs_move.specs.declared.entry.Entry.{Entry}
+use Rattle.gs_move.specs.declared.settled.Settled.{Settled}
+use Rattle.gs_move.specs.declared.settled.Settled.TheVariants.{Spent, Stale, Known, Rejected, Committed}
 use Rattle.gs_move.specs.declared.trial.JournalEntry.{JournalEntry}
 use Rattle.gs_move.specs.declared.trial.Trial.{Trial}
 
@@ -49,3 +51,11 @@ pub record IsTrialOf (J : Answers) (d : Design) (start : List ℕ) (es : List En
   pub front : t.front ≤ length (commits_of es)
   pub moves : is_move d (sizes_at start es t.front) t.mv ≡ true
   pub is : t ≡ trial_of J d (sizes_at start es t.front) t.mv t.front t.worker
+
+-- the answer to a trial by which no entry is added
+abbrev pub AddsNone : Settled → Type 0
+AddsNone (Spent settled) = Unit {0}
+AddsNone (Stale site at) = Unit {0}
+AddsNone (Known k) = Unit {0}
+AddsNone (Rejected k) = ⊥
+AddsNone (Committed k) = ⊥

@@ -99,6 +99,8 @@ impl<J: Judge> Book<J> {
         ensures room { OnOk result (0 < self.new.spare) }
         ensures kept { self.new ≡ record self.old { spare = self.new.spare } }
         ensures mem { OnErr result (self.new ≡ self.old) }
+        // Memory runs out only where there is no room.
+        ensures told { OnErr result (self.old.spare ≡ 0) }
     {
         self.entries.reserve(1)?;
         self.journal.reserve(1)?;

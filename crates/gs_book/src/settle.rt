@@ -2,7 +2,7 @@
 #![tactic(auto)]
 
 ghost use Rattle.std.specs.Prelude.{◌≡◌, ◌+◌, ◌-◌, ◌<◌, map, length, true};
-ghost use Rattle.gs_book.specs.Book.{IsTrialOf};
+ghost use Rattle.gs_book.specs.Book.{AddsNone, IsTrialOf};
 ghost use Rattle.gs_book.specs.Journal.{journal_move};
 ghost use Rattle.gs_move.specs.Entries.{commits_of};
 ghost use Rattle.gs_move.specs.Moves.{is_move};
@@ -94,6 +94,8 @@ impl<J: Judge> Book<J> {
         requires trial { IsTrialOf (J.answers self.old.judge) self.old.design self.old.start self.old.entries trial }
         ensures answer { result ≡ settle_of (J.answers self.old.judge) self.old.design self.old.start self.old.budget self.old.entries trial.mv trial.front }
         ensures book { self.new ≡ record self.old { entries = entries_after self.old.entries trial.mv trial.worker result; spare = self.new.spare } }
+        // Where no entry is added, nothing at all changes, and the room stays.
+        ensures quiet { AddsNone result → self.new ≡ self.old }
     {
         moves_fit(&self.design);
         judges_are_lawful(&self.judge);

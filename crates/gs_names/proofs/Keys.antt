@@ -1,12 +1,12 @@
 -- A name is found by its key, in its bucket.
 
-use Rattle.std.proofs.Common.{◌≡◌, ◌≢◌, ℕ, ◌<◌, ◌%◌, List, length, get_or, set, refl, sym, ap, ◌∙◌, Bool, true, false, ◌&&◌, cond, Option, None, Some, eqb, arith}
+use Rattle.std.proofs.Common.{◌≡◌, ◌≢◌, ℕ, ◌<◌, ◌%◌, List, length, get_or, set, refl, sym, ap, ◌∙◌, Bool, true, false, ◌&&◌, cond, Option, None, Some, Result, Ok, Err, OnErr, eqb, arith}
 use Rattle.std.specs.BTreeMap.{BTreeMap, IsEmpty, get, is_at}
 use Rattle.std.specs.Cmp.{tied_then}
 use Rattle.std.specs.Cmp.Lexicographic.{slice_cmp}
 use Rattle.std.specs.List.{All, slice_get}
 use Rattle.std.specs.Map.{lookup, update}
-use Rattle.std.specs.Ordering.{is_eq, nat_cmp, ordering_then}
+use Rattle.std.specs.Ordering.{is_eq, nat_cmp}
 use Rattle.std.specs.Str.{bytes_eq}
 use Rattle.std.proofs.lemmas.Bool.Decides.{nat_tests}
 use Rattle.std.proofs.lemmas.List.{get_or-set_other, get_or-set_same, length-set}
@@ -41,6 +41,11 @@ same_key a b =
     ∙ ap (λ x. x && is_eq (slice_cmp nat_cmp a b)) (is_eq-nat_cmp (hash_of a) (hash_of b))
     ∙ ap (λ x. eqb (hash_of a) (hash_of b) && x) (is_eq-slice_cmp a b)
     ∙ same_hash a b (bytes_eq a b) refl
+
+-- what holds anyway holds at an error
+pub on_err : {T E P : Type 0} (r : Result T E) → P → OnErr r P
+on_err (Ok x) p = tt
+on_err (Err e) p = p
 
 -- a place of a bucket
 below : (h n : ℕ) → 0 < n → h % n < n

@@ -1,7 +1,7 @@
 //! A map from names to values.
 #![tactic(auto)]
 
-ghost use Rattle.std.specs.Prelude.{◌≡◌, ◌<◌, ◌%◌, ◌^◌, ℕ, List, None, Some, length, IfOk, OnOk, option_copied};
+ghost use Rattle.std.specs.Prelude.{◌≡◌, ◌<◌, ◌%◌, ◌^◌, ℕ, List, None, Some, length, IfOk, OnErr, OnOk, option_copied};
 ghost use Rattle.std.specs.BTreeMap.{IsEmpty};
 ghost use Rattle.std.specs.List.{All};
 ghost use Rattle.std.specs.Map.{update};
@@ -79,6 +79,8 @@ impl<V: Drop> NameMap<V> {
         ensures buckets { OnOk result (HasBuckets self.new) }
         ensures old { IfOk result (λ old. old ≡ find self.old name) }
         ensures updates { OnOk result ((q : List ℕ) → find self.new q ≡ update bytes_eq (find self.old) name (Some value) q) }
+        // Memory runs out only where the name had no value.
+        ensures absent { OnErr result (find self.old name ≡ None) }
     {
         let hash = hash_of(name.as_bytes());
         let place = self.place(hash);

@@ -96,6 +96,12 @@ heading_is bytes Unknown = front.unknown
 heading_is bytes Unbuilt = front.unbuilt
 heading_is bytes (Heads c ps) = front.heads c (map (token_of bytes) ps.now)
 
+-- a known command heads the tokens
+abbrev pub IsHeaded : front.Heading → Type 0
+IsHeaded front.unknown = ⊥
+IsHeaded front.unbuilt = ⊥
+IsHeaded (front.heads c ts) = Unit {0}
+
 abbrev pub HeadingInside : (bytes : List ℕ) → Heading → Type 0
 HeadingInside bytes Unknown = Unit {0}
 HeadingInside bytes Unbuilt = Unit {0}

@@ -1,7 +1,7 @@
 //! What ports are given, each once of a kind.
 #![tactic(auto)]
 
-ghost use Rattle.std.specs.Prelude.{◌≡◌, ◌<◌, ◌∷◌, ◌++◌, ℕ, List, [], false, length, map, IfOk, IfErr, OnOk, Some};
+ghost use Rattle.std.specs.Prelude.{◌≡◌, ◌<◌, ◌≤◌, ◌∷◌, ◌++◌, ℕ, List, [], false, true, length, map, IfOk, IfErr, OnOk, Some};
 ghost use Rattle.std.specs.List.{All};
 ghost use Rattle.std.specs.Option.{is_some, option_map};
 ghost use Rattle.gs_names.specs.Names.{HasBuckets, find};
@@ -65,6 +65,8 @@ fn claim(ports: &mut NameMap<()>, alloc: Global, port: &[u8]) -> Result<(), Stop
     ensures ok { OnOk result ((names : List (List ℕ)) → HasPorts (λ q. is_some (find ports.old q)) names → HasPorts (λ q. is_some (find ports.new q)) (names ++ port.now ∷ [])) }
     ensures fresh { OnOk result (is_some (find ports.old port.now) ≡ false) }
     ensures err { IfErr result (λ e. StopsAgain e (is_some (find ports.old port.now))) }
+    // A second value of a port whose name has at most 16 bytes is told, whatever memory there is.
+    ensures told { IfErr result (λ e. length port.now ≤ 16 → is_some (find ports.old port.now) ≡ true → e ≡ Stop.At Fault.TwoValues) }
 {
     let key = Name::copy_of(alloc, port)?;
     if ports.insert(key, ())?.is_some() {

@@ -1,13 +1,13 @@
 //! What a command says.
 #![tactic(auto)]
 
-ghost use Rattle.std.specs.Prelude.{◌≡◌, ◌<◌, ◌≤◌, ℕ, List, Ok, length, map, IfOk, IfSome};
+ghost use Rattle.std.specs.Prelude.{◌≡◌, ◌<◌, ◌≤◌, ℕ, List, Ok, length, map, IfErr, IfOk, IfSome};
 ghost use Rattle.std.specs.List.{All, list_any};
 ghost use Rattle.std.specs.Option.{option_map};
 ghost use Rattle.gs_amount.specs.Amount.{IsAmount, IsLimited};
 ghost use Rattle.gs_sdc.specs.Command.{above_zero, amount_in, as_ports, as_word, clocks_by, drives_by, first_of, gives_by, meaning, number_in, same_slot, passes_by, the_ports, the_value, the_word, transition_in};
 ghost use Rattle.gs_sdc.specs.Front.{heading_by, heading_of, parts_of, reading_of, said_by, version_by};
-ghost use Rattle.gs_sdc.specs.Reads.{HasInside, HasNumbers, HeadingInside, IsOf, NamesInside, fits_is, heading_is, names_at, part_of, reading_is, slot_is, word_is};
+ghost use Rattle.gs_sdc.specs.Reads.{HasInside, HasNumbers, HeadingInside, IsHeaded, IsOf, NamesInside, fits_is, heading_is, names_at, part_of, reading_is, slot_is, word_is};
 ghost use Rattle.gs_sdc.specs.Token.{token_of};
 ghost use Rattle.gs_text.specs.Pieces.{LiesIn};
 
@@ -421,6 +421,8 @@ pub fn read_command<'a>(
     ensures value { IfOk result (λ o. option_map (reading_is bytes.now) o ≡ reading_of units (map (token_of bytes.now) pieces.now)) }
     ensures kept { IfOk result (λ o. IfSome o HasNumbers) }
     ensures inside { IfOk result (λ o. IfSome o (NamesInside bytes.now)) }
+    // Memory runs out only where a known command heads the pieces: all else is told, whatever memory there is.
+    ensures told { IfErr result (λ _. IsHeaded (heading_of (map (token_of bytes.now) pieces.now))) }
 {
     match heading_of(bytes, pieces) {
         Heading::Unknown => Ok(None),

@@ -96,6 +96,8 @@ impl Reader {
         ensures kept { OnOk result (IsReader self.new) }
         ensures ok { OnOk result (Adds self.old self.new net total) }
         ensures err { IfErr result (λ e. StopsAtNet e (list_any (of_net net) self.old.wires.items)) }
+        // A second net whose name has at most 16 bytes is told, whatever memory there is.
+        ensures told { IfErr result (λ e. length net ≤ 16 → list_any (of_net net) self.old.wires.items ≡ true → e ≡ Stop.At Fault.TwoNets) }
     {
         let key = Name::copy_of(alloc, net.as_bytes())?;
         if self.nets.insert(key, ())?.is_some() {

@@ -1,6 +1,6 @@
 -- A name is found by its key, in its bucket.
 
-use Rattle.std.proofs.Common.{◌≡◌, ◌≢◌, ℕ, ◌<◌, ◌-◌, List, length, get_or, set, refl, sym, ap, ◌∙◌, Bool, true, false, ◌&&◌, cond, Option, None, Some, eqb, arith}
+use Rattle.std.proofs.Common.{◌≡◌, ◌≢◌, ℕ, ◌<◌, ◌-◌, List, length, get_or, set, refl, sym, ap, ◌∙◌, Bool, true, false, ◌&&◌, cond, Option, None, Some, Result, Ok, Err, OnErr, eqb, arith}
 use Rattle.std.specs.BTreeMap.{BTreeMap, IsEmpty, get, get_by, is_at}
 use Rattle.std.specs.Cmp.{tied_then}
 use Rattle.std.specs.Cmp.Lexicographic.{slice_cmp}
@@ -18,6 +18,11 @@ use Rattle.gs_verilog.specs.Names.{HasBuckets, Key, find, find_in, front_of, has
 use Rattle.gs_verilog.specs.declared.names.NameMap.{NameMap}
 use Rattle.gs_verilog.proofs.Indexes.{is_eq-nat_cmp}
 use Rattle.gs_verilog.proofs.Numbers.{same_bytes}
+
+-- what holds anyway holds at an error
+pub on_err : {T E P : Type 0} (r : Result T E) → P → OnErr r P
+on_err (Ok x) p = tt
+on_err (Err e) p = p
 
 same_hash : (a b : List ℕ) (r : Bool) → bytes_eq a b ≡ r → (eqb (hash_of a) (hash_of b) && bytes_eq a b) ≡ bytes_eq a b
 same_hash a b true e =

@@ -1,10 +1,12 @@
 //! The netlist so far, with the maps by which its names are found.
 #![tactic(auto)]
 
-ghost use Rattle.std.specs.Prelude.{◌≡◌, ◌<◌, ◌^◌, false, length, IfOk, IfErr};
+ghost use Rattle.std.specs.Prelude.{◌≡◌, ◌<◌, ◌^◌, false, true, length, IfOk, IfErr};
 ghost use Rattle.gs_verilog.specs.Index.{IsIndexed, Refuses, built, linked};
 ghost use Rattle.gs_verilog.specs.Machine.{connected, declared, empty, has_inst, has_pin, has_port, with_inst, with_link, with_port};
 ghost use Rattle.gs_verilog.specs.declared.machine.Role.{Role};
+ghost use Rattle.gs_verilog.specs.declared.error.Rule.{Rule};
+ghost use Rattle.gs_drive.specs.declared.machine.Fault.{Fault};
 ghost use Rattle.gs_drive.specs.declared.machine.StepErr.{StepErr};
 
 use crate::error::{Stop, twice};
@@ -102,6 +104,8 @@ impl<'a> Builder<'a> {
         ensures ok { IfOk result (λ _. built self.new ≡ with_inst (built self.old) cell.now name.now) }
         ensures free { IfOk result (λ _. has_inst (built self.old) name.now ≡ false) }
         ensures err { IfErr result (λ e. Refuses (has_inst (built self.old) name.now) e) }
+        // A second instance of a name is told, whatever memory there is.
+        ensures told { IfErr result (λ e. has_inst (built self.old) name.now ≡ true → e ≡ StepErr.Refused (Fault.Broken Rule.NamesDiffer)) }
     {
         let count = self.insts.len() as u32;
         if self.named.insert(name, count)?.is_some() {

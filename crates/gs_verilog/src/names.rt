@@ -1,7 +1,7 @@
 //! A map from names to numbers.
 #![tactic(auto)]
 
-ghost use Rattle.std.specs.Prelude.{◌≡◌, cond, ◌<◌, ◌-◌, ℕ, List, None, Some, length, IfOk, IfErr, OnOk, option_copied};
+ghost use Rattle.std.specs.Prelude.{◌≡◌, cond, ◌<◌, ◌-◌, ℕ, List, None, Some, length, IfOk, IfErr, OnErr, OnOk, option_copied};
 ghost use Rattle.std.specs.BTreeMap.{IsEmpty, get, is_at};
 ghost use Rattle.std.specs.Int.Bits.{bit_and};
 ghost use Rattle.std.specs.List.{All};
@@ -118,6 +118,8 @@ impl<'a> NameMap<'a> {
         ensures buckets { OnOk result (HasBuckets self.new) }
         ensures old { IfOk result (λ old. old ≡ find self.old name.now) }
         ensures updates { OnOk result ((q : List ℕ) → find self.new q ≡ update bytes_eq (find self.old) name.now (Some number) q) }
+        // Memory runs out only where the name had no number.
+        ensures absent { OnErr result (find self.old name.now ≡ None) }
         ensures err { IfErr result (λ e. e ≡ StepErr.Full) }
     {
         let (front, hash) = hashes_of(name);

@@ -121,7 +121,9 @@ impl<'a> Reader<'a> {
     /// The netlist, where the tokens so far are a whole one.
     pub fn into_netlist(self, alloc: Global) -> Result<Option<Netlist>, AllocError>
         requires { IsNetlist (built self.built) }
-        ensures { IfOk result (λ found. found ≡ end_of (state_of self.entry)) }
+        ensures ok { IfOk result (λ found. found ≡ end_of (state_of self.entry)) }
+        // Memory runs out only for the name of a whole one: that the tokens end early is told, whatever memory there is.
+        ensures told { IfErr result (λ _. self.entry.place ≡ Place.End) }
     {
         let Reader { place, built, .. } = self;
         if place != Place::End {
