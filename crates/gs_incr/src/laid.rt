@@ -103,10 +103,11 @@ fn marked(turn: u64, mark: u64, time: &NetTime) -> Option<NetTime>
 fn fresh(marks: Vec<u64>, records: Vec<NetTime>) -> Laid
     requires many { length records.items ≡ length marks.items }
     requires zero { (n : ℕ) → n < length marks.items → slice_index marks.items n ≡ 0 }
-    ensures { length result ≡ length marks.items }
+    ensures many { length result ≡ length marks.items }
+    ensures none { (n : ℕ) → laid_at result n ≡ None }
 {
     Laid {
-        turn: 0,
+        turn: 1,
         marks,
         records,
     }
@@ -115,11 +116,20 @@ fn fresh(marks: Vec<u64>, records: Vec<NetTime>) -> Laid
 impl Laid {
     /// Place for the records of so many nets.
     pub fn new(alloc: Global, count: usize) -> Result<Laid, Mem>
-        ensures { IfOk result (λ l. length l ≡ count) }
+        ensures many { IfOk result (λ l. length l ≡ count) }
+        ensures none { IfOk result (λ l. (n : ℕ) → laid_at l n ≡ None) }
     {
         let marks = no_marks(alloc, count)?;
         let records = no_records(alloc, count)?;
         Ok(fresh(marks, records))
+    }
+
+    /// For how many nets it is.
+    #[inline]
+    pub fn count(&self) -> usize
+        ensures { result ≡ length self.now }
+    {
+        self.marks.as_slice().len()
     }
 
     /// Takes all records away. It takes no memory.

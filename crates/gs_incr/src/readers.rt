@@ -1,8 +1,9 @@
 //! Which ranks wait: those of the moved instance's nets, and those of the nets that gates drive from a net whose record changed.
 #![tactic(auto)]
 
-ghost use Rattle.std.specs.Prelude.{◌≡◌, ◌&&◌, ◌||◌, ◌<◌, ◌+◌, ℕ, OnOk, length, drop};
+ghost use Rattle.std.specs.Prelude.{◌≡◌, ◌&&◌, ◌||◌, ◌<◌, ◌+◌, ℕ, OnErr, OnOk, length, drop, true};
 ghost use Rattle.std.specs.List.{list_any};
+ghost use Rattle.gs_design.specs.Ends.{is_gate_inst};
 ghost use Rattle.gs_design.specs.Insts.{inst_at};
 ghost use Rattle.gs_design.specs.Nets.{net_at};
 ghost use Rattle.gs_incr.specs.Queue.{has};
@@ -47,7 +48,9 @@ pub fn put_seeds(queue: &mut Queue, design: &Design, inst: InstId) -> Result<(),
 #[inline]
 fn put_reader(queue: &mut Queue, design: &Design, sink: &Sink) -> Result<(), Mem>
     requires { sink.now.inst < length design.now.insts }
-    ensures { OnOk result ((q : ℕ) → has queue.new q ≡ (has queue.old q || is_reader design.now q sink.now)) }
+    ensures puts { OnOk result ((q : ℕ) → has queue.new q ≡ (has queue.old q || is_reader design.now q sink.now)) }
+    // Memory runs out only where the instance is a gate.
+    ensures told { OnErr result (is_gate_inst design.now.cells (inst_at design.now.insts sink.now.inst) ≡ true) }
 {
     if !design.is_gate(sink.inst) {
         return Ok(());

@@ -1,7 +1,7 @@
 //! Memory for retiming, which is kept from move to move.
 #![tactic(auto)]
 
-ghost use Rattle.std.specs.Prelude.{◌≡◌, ◌+◌, [], IfOk, OnOk, length, true};
+ghost use Rattle.std.specs.Prelude.{◌≡◌, ◌==◌, ◌+◌, [], IfOk, OnOk, length, true};
 ghost use Rattle.gs_design.specs.Sizes.{FitSizes};
 ghost use Rattle.gs_design.specs.Timing.{IsTiming};
 ghost use Rattle.gs_incr.specs.Seen.{seen_of};
@@ -37,13 +37,14 @@ impl Model for Scratch {
 }
 
 impl Scratch {
-    /// Memory for moves of a design.
+    /// Memory for moves of a design. It has seen nothing yet.
     ///
     /// # Errors
     ///
     /// `Mem` is want of memory.
     pub fn new(alloc: Global, design: &Design) -> Result<Scratch, Mem>
-        ensures { IfOk result (λ s. s.nets ≡ length design.now.nets) }
+        ensures nets { IfOk result (λ s. s.nets ≡ length design.now.nets) }
+        ensures seen { IfOk result (λ s. s.seen ≡ []) }
     {
         let laid = Laid::new(alloc, design.nets.len())?;
         let work = Work {
@@ -52,6 +53,14 @@ impl Scratch {
             seen: Vec::new(alloc),
         };
         Ok(Scratch { work })
+    }
+
+    /// Whether it is memory for as many nets as a design has. It can be used for moves of that design then, whatever it was made for.
+    #[inline]
+    pub fn is_for(&self, design: &Design) -> bool
+        ensures { result ≡ (self.now.nets == length design.now.nets) }
+    {
+        self.work.laid.count() == design.nets.len()
     }
 
     /// What the last retiming has seen.

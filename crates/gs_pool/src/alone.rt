@@ -16,18 +16,19 @@ use gs_book::Book;
 use gs_move::{Ended, Judge, minimum_is_none_fair, recovery_goes_on};
 use gs_quantity::Mem;
 use std::alloc::Global;
+use std::thread::Threads;
 
 /// Recovery without further workers, from the entries that a book has: rounds, each of which sweeps for Fair moves and tries and settles
 /// them in order under worker 0, until a sweep finds none (`Settled`) or there are as many entries as the budget (`Spent`).
 ///
-/// It waits for nobody. Each trial times what its move changes. Every round but the last adds an entry; and with P moves away from any sizes there
-/// are, under leakage recovery, at most P commits and at most P * (P + 2) entries in all (law `legal_is_few` of `gs_move`), so that a greater
-/// budget is never spent. `rt` is not used yet, except that each sweep is given it.
+/// A sweep waits for the threads that it starts, and for nothing else; `rt` starts them, and they are seen in no answer. Each trial times
+/// what its move changes. Every round but the last adds an entry; and with P moves away from any sizes there are, under leakage recovery,
+/// at most P commits and at most P * (P + 2) entries in all (law `legal_is_few` of `gs_move`), so that a greater budget is never spent.
 ///
 /// # Errors
 ///
 /// `Mem` is want of memory; the book is given up.
-pub fn recover_alone<R, J: Judge>(
+pub fn recover_alone<R: Threads + Sync, J: Judge>(
     rt: &R,
     alloc: Global,
     book: Book<J>,

@@ -19,13 +19,18 @@ use gs_trial::try_in;
 use std::alloc::Global;
 use std::marker::Brand;
 use std::sync::ledger::{Blank, Ledger};
+use std::thread::Threads;
 
 /// The moves that are Fair at a book's sizes by its judge, by instance and then place: what a round begins with.
 ///
 /// # Errors
 ///
 /// `Mem` is want of memory.
-pub fn sweep_book<R, J: Judge>(rt: &R, alloc: Global, book: &Book<J>) -> Result<Vec<Move>, Mem>
+pub fn sweep_book<R: Threads + Sync, J: Judge>(
+    rt: &R,
+    alloc: Global,
+    book: &Book<J>,
+) -> Result<Vec<Move>, Mem>
     ensures fair { IfOk result (λ v. v.items ≡ sweep_of (J.answers book.now.judge) book.now.design book.now.start book.now.entries) }
     ensures moves { IfOk result (λ v. All (IsMoveOf book.now.design) v.items) }
 {

@@ -19,6 +19,7 @@ use std::alloc::Global;
 use std::marker::Brand;
 use std::sync::ledger::{Blank, Ledger};
 use std::test::Fail;
+use std::thread::Threads;
 
 /// Inverters and gates of two inputs, of two cells each.
 const LIBRARY: &[u8] =
@@ -207,11 +208,16 @@ fn goes_on(moves: &mut Vec<Move>, inst: InstId, place: u32) -> bool {
 }
 
 /// Whether both ways agree on every move of the mixed design from these places: the trials, and the moves that a sweep finds, from last to first.
-fn agree(alloc: Global, sdc: &'static str, places: &[u32]) -> Result<bool, Fail> {
+fn agree<R: Threads + Sync>(
+    rt: &R,
+    alloc: Global,
+    sdc: &'static str,
+    places: &[u32],
+) -> Result<bool, Fail> {
     let design = design_of(alloc, &texts_with(sdc))?;
     let sizes = fitting(alloc, &design, places)?;
     let timing = time_all(alloc, &design, &sizes)?;
-    let mut moves = sweep(&(), alloc, &design, &sizes, &timing, &Recovery)?;
+    let mut moves = sweep(rt, alloc, &design, &sizes, &timing, &Recovery)?;
     for down in 0..design.insts.len() as u32 {
         let inst = InstId(design.insts.len() as u32 - 1 - down);
         for back in 0..3 {
@@ -231,8 +237,8 @@ fn agree(alloc: Global, sdc: &'static str, places: &[u32]) -> Result<bool, Fail>
 #[test]
 fn trials_and_sweeps_are_those_of_two_whole_timings(rt: HostRuntime) -> Result<(), Fail> {
     for sdc in [LIMITS, TIGHT_LIMITS] {
-        assert!(rt; agree(rt.alloc(), sdc, &[1, 1, 0, 0, 0, 0, 1, 0, 1, 0])?);
-        assert!(rt; agree(rt.alloc(), sdc, &[2, 0, 0, 0, 0, 1, 0, 0, 2, 1])?);
+        assert!(rt; agree(&rt, rt.alloc(), sdc, &[1, 1, 0, 0, 0, 0, 1, 0, 1, 0])?);
+        assert!(rt; agree(&rt, rt.alloc(), sdc, &[2, 0, 0, 0, 0, 1, 0, 0, 2, 1])?);
     }
     Ok(())
 }

@@ -14,6 +14,7 @@ use Rattle.gs_move.specs.Judge.{Answers, fair_moves, is_fair_by}
 use Rattle.gs_move.specs.Moves.{alt_count, is_move, moves_at, moves_of_inst}
 use Rattle.gs_move.specs.declared.moves.Move.{Move}
 use Rattle.gs_sweep.specs.Inst.{fair_of_inst}
+use Rattle.gs_sweep.proofs.ListLaws.{filter_flat_map, flat_map_by}
 
 range_more : (n : ℕ) → range_with_len 0 (n + 1) ≡ range_with_len 0 n ++ n ∷ []
 range_more n =
@@ -40,16 +41,13 @@ abbrev pub to : ℕ → ℕ → Move
 to g p = record { inst = g; place = p }
 
 module _ (J : Answers) (d : Design) (s : List ℕ) where
-  -- ---- the places of one instance below a place, and the instances below one
+  -- ---- the places of one instance below a place
 
   abbrev elsewhere : ℕ → ℕ → Bool
   elsewhere g p = not (p == slice_index s g)
 
   abbrev pub fair_below : ℕ → ℕ → List Move
   fair_below g count = filter (is_fair_by J d s) (map (to g) (filter (elsewhere g) (range_with_len 0 count)))
-
-  abbrev pub fair_before : ℕ → List Move
-  fair_before count = filter (is_fair_by J d s) (flat_map (moves_of_inst d s) (range_with_len 0 count))
 
   place_more : (g p : ℕ) (b : Bool) → elsewhere g p ≡ b → fair_below g (p + 1) ≡ fair_below g p ++ filter (is_fair_by J d s) (map (to g) (cond b (p ∷ []) []))
   place_more g p b is =
@@ -72,12 +70,12 @@ module _ (J : Answers) (d : Design) (s : List ℕ) where
   pub place_fair : (g p : ℕ) → (p ≡ slice_index s g → ⊥) → is_fair_by J d s (to g p) ≡ true → fair_below g (p + 1) ≡ fair_below g p ++ to g p ∷ []
   place_fair g p apart fair = place_other g p true apart fair
 
-  pub inst_more : (g : ℕ) → fair_before (g + 1) ≡ fair_before g ++ fair_of_inst J d s g
-  inst_more g =
-      ap (λ gs. filter (is_fair_by J d s) (flat_map (moves_of_inst d s) gs)) (range_more g)
-      ∙ ap (filter (is_fair_by J d s)) (flat_map-append (moves_of_inst d s) (range_with_len 0 g) (g ∷ []))
-      ∙ filter-append (is_fair_by J d s) (flat_map (moves_of_inst d s) (range_with_len 0 g)) (moves_of_inst d s g ++ [])
-      ∙ ap (λ ms. fair_before g ++ filter (is_fair_by J d s) ms) (append-nil (moves_of_inst d s g))
+  -- ---- the lists of all instances
+
+  pub all_fair : {L : Type 0} (items : L → List Move) (lists : List L) → map items lists ≡ map (fair_of_inst J d s) (range_with_len 0 (length d.insts)) → flat_map items lists ≡ fair_moves J d s
+  all_fair items lists is =
+      flat_map_by items (fair_of_inst J d s) lists (range_with_len 0 (length d.insts)) is
+      ∙ filter_flat_map (is_fair_by J d s) (moves_of_inst d s) (range_with_len 0 (length d.insts))
 
   -- ---- each is a move
 

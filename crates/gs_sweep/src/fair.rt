@@ -2,13 +2,11 @@
 #![tactic(auto)]
 
 ghost use Rattle.std.specs.Prelude.{◌≡◌, ◌<◌, IfOk, length, true};
-ghost use Rattle.gs_design.specs.Sizes.{FitSizes};
-ghost use Rattle.gs_design.specs.Timing.{IsTiming};
 ghost use Rattle.gs_move.specs.Change.{change_of};
 ghost use Rattle.gs_move.specs.Judge.{is_fair, is_fair_by};
 ghost use Rattle.gs_move.specs.Moves.{is_move};
 
-use gs_design::{Design, Sizes, Timing};
+use crate::swept::Swept;
 use gs_incr::Scratch;
 use gs_move::{Judge, Move, Outcome};
 use gs_quantity::{Mem, Steps};
@@ -28,24 +26,27 @@ fn is_fair(outcome: &Outcome) -> bool
 fn judged<J: Judge, L: Ledger>(
     blank: Blank,
     scratch: &mut Scratch,
-    design: &Design,
-    sizes: &Sizes,
-    timing: &Timing,
-    judge: &J,
+    swept: &Swept<J>,
     mv: &Move,
 ) -> Result<Outcome, Mem>
     requires name { blank.name ≡ L.name }
     requires parts { blank.parts ≡ L.parts }
     requires some { 0 < blank.parts }
-    requires nets { scratch.old.nets ≡ length design.now.nets }
-    requires sizes { FitSizes design.now sizes.now }
-    requires timing { IsTiming design.now sizes.now timing.now }
-    requires mv { is_move design.now sizes.now mv.now ≡ true }
+    requires nets { scratch.old.nets ≡ length swept.now.design.now.nets }
+    requires mv { is_move swept.now.design.now swept.now.sizes.now mv.now ≡ true }
     ensures nets { scratch.new.nets ≡ scratch.old.nets }
-    ensures outcome { IfOk result (λ o. o ≡ (J.answers judge.now).judge (change_of design.now sizes.now mv.now)) }
+    ensures outcome { IfOk result (λ o. o ≡ (J.answers swept.now.judge.now).judge (change_of swept.now.design.now swept.now.sizes.now mv.now)) }
 {
     let mut steps = Steps::<L>::begin(blank);
-    outcome_in(scratch, design, sizes, timing, mv, judge, &mut steps)
+    outcome_in(
+        scratch,
+        swept.design,
+        swept.sizes,
+        swept.timing,
+        mv,
+        swept.judge,
+        &mut steps,
+    )
 }
 
 /// Whether a move is Fair by a judge, in the memory of a [`Scratch`] for the design.
@@ -53,21 +54,12 @@ fn judged<J: Judge, L: Ledger>(
 /// # Errors
 ///
 /// `Mem` is want of memory.
-pub fn is_fair_by<J: Judge>(
-    scratch: &mut Scratch,
-    design: &Design,
-    sizes: &Sizes,
-    timing: &Timing,
-    judge: &J,
-    mv: &Move,
-) -> Result<bool, Mem>
-    requires nets { scratch.old.nets ≡ length design.now.nets }
-    requires sizes { FitSizes design.now sizes.now }
-    requires timing { IsTiming design.now sizes.now timing.now }
-    requires mv { is_move design.now sizes.now mv.now ≡ true }
+pub fn is_fair_by<J: Judge>(scratch: &mut Scratch, swept: &Swept<J>, mv: &Move) -> Result<bool, Mem>
+    requires nets { scratch.old.nets ≡ length swept.now.design.now.nets }
+    requires mv { is_move swept.now.design.now swept.now.sizes.now mv.now ≡ true }
     ensures nets { scratch.new.nets ≡ scratch.old.nets }
-    ensures fair { IfOk result (λ b. b ≡ is_fair_by (J.answers judge.now) design.now sizes.now mv.now) }
+    ensures fair { IfOk result (λ b. b ≡ is_fair_by (J.answers swept.now.judge.now) swept.now.design.now swept.now.sizes.now mv.now) }
 {
-    let outcome = judged::<J, Brand>(Blank::new(1), scratch, design, sizes, timing, judge, mv)?;
+    let outcome = judged::<J, Brand>(Blank::new(1), scratch, swept, mv)?;
     Ok(is_fair(&outcome))
 }

@@ -14,6 +14,7 @@ use gs_report::{Log, each_log_is_determined};
 use gs_timing::{time_all, timing_is_made};
 use std::alloc::Global;
 use std::sync::Arc;
+use std::thread::Threads;
 
 /// How many moves an instance has from any place.
 fn moves_of(design: &Design, number: u32) -> u64
@@ -85,7 +86,7 @@ fn has_64_bits(budget: u64)
 }
 
 /// Recovers leakage of a design from these sizes, without workers. Answers the book with which it ended, and its log.
-pub(crate) fn recover<R>(
+pub(crate) fn recover<R: Threads + Sync>(
     rt: &R,
     alloc: Global,
     design: Design,

@@ -1,11 +1,12 @@
 //! Trials.
 #![tactic(auto)]
 
-ghost use Rattle.std.specs.Prelude.{◌≡◌, ◌+◌, IfOk, length, true};
+ghost use Rattle.std.specs.Prelude.{◌≡◌, ◌+◌, IfOk, None, OnErr, length, true};
 ghost use Rattle.gs_design.specs.Sizes.{FitSizes};
 ghost use Rattle.gs_design.specs.Timing.{IsTiming};
 ghost use Rattle.gs_incr.specs.Seen.{seen_of};
 ghost use Rattle.gs_move.specs.Change.{change_of, facts_of};
+ghost use Rattle.gs_move.specs.Fair.{new_leak, present_leak};
 ghost use Rattle.gs_move.specs.Moves.{is_move};
 ghost use Rattle.gs_move.specs.Trial.{trial_of, trial_with};
 ghost use Rattle.gs_trial.specs.Steps.{steps_of};
@@ -89,6 +90,8 @@ pub fn outcome_in<J: Judge, L: Ledger>(
     ensures nets { scratch.new.nets ≡ scratch.old.nets }
     ensures outcome { IfOk result (λ o. o ≡ (J.answers judge.now).judge (change_of design.now sizes.now mv.now)) }
     ensures steps { IfOk result (λ _. steps.new ≡ steps.old + steps_of (J.answers judge.now) design.now sizes.now mv.now) }
+    // What is refused at a glance is told, whatever memory there is.
+    ensures told { OnErr result ((J.answers judge.now).glance (present_leak design.now sizes.now mv.now) (new_leak design.now mv.now) ≡ None) }
 {
     judges_are_lawful(judge);
     let leak_old = present_leak(design, sizes, mv);
@@ -128,6 +131,8 @@ pub fn try_in<J: Judge, L: Ledger>(
     ensures trial { IfOk result (λ t. t ≡ trial_of (J.answers judge.now) design.now sizes.now mv front worker) }
     ensures judged { IfOk result (λ t. t.outcome ≡ (J.answers judge.now).judge (change_of design.now sizes.now mv)) }
     ensures steps { IfOk result (λ _. steps.new ≡ steps.old + steps_of (J.answers judge.now) design.now sizes.now mv) }
+    // What is refused at a glance is told, whatever memory there is.
+    ensures told { OnErr result ((J.answers judge.now).glance (present_leak design.now sizes.now mv) (new_leak design.now mv) ≡ None) }
 {
     judges_are_lawful(judge);
     let leak_old = present_leak(design, sizes, &mv);

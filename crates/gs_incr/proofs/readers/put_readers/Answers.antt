@@ -25,7 +25,7 @@ loop-sink-preserved c = λ q.
     let d = c.args.design.now in
     let i = c.loop-sink.sink-index in
     let xs = c.sinks-sink-items.result.now in
-    c.in_ok-put_reader.ensures q
+    c.in_ok-put_reader.ensures.puts q
     ∙ ap (λ b. b || is_reader d q c.sink-item.result) (c.loop-sink.invariant q)
     ∙ or_assoc (has c.args.queue.now q) (list_any (is_reader d q) (take i xs)) (is_reader d q c.sink-item.result)
     ∙ ap (λ n. has c.args.queue.now q || (list_any (is_reader d q) (take i xs) || is_reader d q n)) c.sink-item.is
