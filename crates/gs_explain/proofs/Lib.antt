@@ -1,5 +1,6 @@
 mod BracketLaws
 mod Judged
+mod LimitLaws
 mod LineLaws
 mod SaidLaws
 mod SpotLaws

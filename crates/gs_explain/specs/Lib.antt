@@ -9,6 +9,7 @@ pub mod Said
 pub mod Spot
 pub mod Text
 pub mod Rest
+pub mod Limits
 pub mod Object
 pub mod Words
 pub mod Explain

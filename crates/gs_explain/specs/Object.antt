@@ -8,6 +8,7 @@ use Rattle.gs_locate.specs.Verilog.{is_connected_net, is_instance_cell, is_insta
 use Rattle.gs_survey.specs.declared.error.LinkErr.{LinkErr}
 use Rattle.gs_survey.specs.declared.error.LinkErr.TheVariants as link
 use Rattle.gs_text.specs.declared.kinds.Style.TheVariants.{Verilog, Lib}
+use Rattle.gs_explain.specs.Limits.{IsPortPlace, IsWirePlace}
 use Rattle.gs_explain.specs.Located.{located, unplaced}
 
 -- the name of the cell in the library, of the n-th cell of the name counted from 0
@@ -33,15 +34,15 @@ abbrev pub IsFirstNetPlace : Option (List ℕ) → (bytes : List ℕ) → Option
 IsFirstNetPlace None bytes found = found ≡ None
 IsFirstNetPlace (Some net) bytes found = IsNetPlace net bytes found
 
--- the instance's cell, its pin, its name; the net; the pin of the library's cell
+-- the instance's cell, its pin, its name; the net; the port in the constraints; the net's block of wires; the pin of the library's cell
 abbrev pub IsLinkPlace : LinkErr → (bytes : List ℕ) → Option ℕ → Type 0
 IsLinkPlace (link.UnknownCell by) bytes found = IsLocated (is_instance_cell by) Verilog bytes found
 IsLinkPlace (link.UnknownPin by pin) bytes found = IsLocated (is_pin by pin) Verilog bytes found
 IsLinkPlace (link.OpenPin inst pin) bytes found = IsLocated (is_instance_name inst) Verilog bytes found
 IsLinkPlace (link.TwoDrivers net) bytes found = IsNetPlace net bytes found
 IsLinkPlace (link.Undriven net) bytes found = IsNetPlace net bytes found
-IsLinkPlace (link.UnknownPort name) bytes found = found ≡ None
-IsLinkPlace (link.UnknownNet name) bytes found = found ≡ None
+IsLinkPlace (link.UnknownPort name) bytes found = IsPortPlace name bytes found
+IsLinkPlace (link.UnknownNet name) bytes found = IsWirePlace name bytes found
 IsLinkPlace (link.NoArc cell pin) bytes found = LocatesNth (nests (is_pin_name cell pin) bytes) 0 Lib bytes found
 IsLinkPlace (link.TooMany kind count) bytes found = found ≡ None
 IsLinkPlace (link.Loop cycle) bytes found = IsFirstNetPlace (slice_get cycle 0) bytes found

@@ -9,7 +9,8 @@
 //! - `specs/Wanted.antt`: what could stand in the place of a refused piece, by the readers' own causes.
 //! - `specs/Spot.antt`: where a refusal is shown, and what is said there; `specs/Odd.antt`: files that are no texts at all.
 //! - `specs/Text.antt`, `specs/Rest.antt`, `specs/Said.antt`: the sentences.
-//! - `specs/Object.antt`: where the object of a refused library or design stands. `specs/Words.antt`: of words that make no job.
+//! - `specs/Object.antt`: where the object of a refused library or design stands; `specs/Limits.antt`: of constraints and of wires.
+//! - `specs/Words.antt`: of words that make no job.
 //! - `specs/Explain.antt`: what is printed of each status.
 //!
 //! Cost: one fetch of the file, one pass over its bytes, 16 bytes of memory for each of its pieces where pieces are counted; for a piece
@@ -24,9 +25,12 @@ mod expected;
 mod files;
 mod form;
 mod joined;
+mod limits;
 #[cfg(test)]
 mod line_tests;
 mod lines;
+#[cfg(test)]
+mod link_tests;
 mod object;
 mod odd;
 mod place;

@@ -23,7 +23,7 @@ fn wires() -> [Row; 5] {
         ),
         of_wires(
             "*C_UNIT 1 FF\n*D_NET q7 1\n*END\n",
-            "n.spef: the netlist has no net q7\n",
+            "n.spef:2:8: the netlist has no net q7\n*D_NET q7 1\n       ^\n",
         ),
     ]
 }
@@ -53,7 +53,7 @@ fn limits() -> [Row; 7] {
         ),
         of_limits(
             "create_clock -name k -period 100\nset_output_delay 1 [get_ports x]\n",
-            "n.sdc: the netlist has no port x, or not in this direction\n",
+            "n.sdc:2:31: the netlist has no port x, or not in this direction\nset_output_delay 1 [get_ports x]\n                              ^\n",
         ),
     ]
 }

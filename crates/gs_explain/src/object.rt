@@ -5,6 +5,7 @@ ghost use Rattle.gs_explain.specs.Object.{IsCellPlace, IsFirstNetPlace, IsLibPla
 ghost use Rattle.gs_explain.specs.Rest.{lib_text, link_text};
 
 use crate::excerpt::{located, unplaced};
+use crate::limits::{port_place, wire_place};
 use crate::rest::{lib_text, link_text};
 use gs_lib::LibErr;
 use gs_locate::{
@@ -40,7 +41,7 @@ fn cycle_place(alloc: Global, cycle: &Names, bytes: &[u8]) -> Result<Option<u32>
     }
 }
 
-/// The place of what is at fault in the netlist or the library.
+/// The place of what is at fault in the file that is.
 fn link_place(alloc: Global, error: &LinkErr, bytes: &[u8]) -> Result<Option<u32>, AllocError>
     requires { length bytes.now ≤ max_text }
     ensures { IfOk result (IsLinkPlace error.now bytes.now) }
@@ -56,10 +57,9 @@ fn link_place(alloc: Global, error: &LinkErr, bytes: &[u8]) -> Result<Option<u32
             library_pin_place(alloc, bytes, cell.as_bytes(), pin.as_bytes(), 0)
         }
         LinkErr::Loop { cycle } => cycle_place(alloc, cycle, bytes),
-        LinkErr::UnknownPort { .. }
-        | LinkErr::UnknownNet { .. }
-        | LinkErr::TooMany { .. }
-        | LinkErr::Mem => Ok(None),
+        LinkErr::UnknownPort { name } => port_place(alloc, name.as_bytes(), bytes),
+        LinkErr::UnknownNet { name } => wire_place(alloc, name.as_bytes(), bytes),
+        LinkErr::TooMany { .. } | LinkErr::Mem => Ok(None),
     }
 }
 

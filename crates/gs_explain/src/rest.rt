@@ -1,6 +1,6 @@
 //! What is said of refusals that have no place in a text so far: of a library and of a design, by the names that the status has.
-ghost use Rattle.std.specs.Prelude.{◌≡◌, ◌∷◌, ◌++◌, IfOk, OnOk};
-ghost use Rattle.std.specs.List.{flat_map};
+ghost use Rattle.std.specs.Prelude.{◌≡◌, [], ◌∷◌, ◌++◌, IfOk, OnOk, codes};
+ghost use Rattle.std.specs.List.{concat, flat_map};
 ghost use Rattle.gs_explain.specs.Rest.{counted_text, lib_text, link_file, link_text, loop_text, nets_text, of_cell, reason_text, table_name, table_text, what_text};
 
 use crate::joined::joined;
@@ -188,60 +188,100 @@ fn loop_text(alloc: Global, cycle: &Names) -> Result<Vec<u8>, Mem>
     )
 }
 
+/// What is said of a cell that the library lacks.
+fn unknown_cell(alloc: Global, by: &Name) -> Result<Vec<u8>, Mem>
+    ensures { IfOk result (λ v. v.items ≡ link_text (LinkErr.UnknownCell by.now)) }
+{
+    joined(alloc, &[b"the library has no cell for ", by.as_bytes()])
+}
+
+/// What is said of a pin that a cell lacks.
+fn unknown_pin(alloc: Global, by: &Name, pin: &Name) -> Result<Vec<u8>, Mem>
+    ensures { IfOk result (λ v. v.items ≡ link_text (LinkErr.UnknownPin by.now pin.now)) }
+{
+    joined(
+        alloc,
+        &[
+            b"the cell of ",
+            by.as_bytes(),
+            b" has no pin ",
+            pin.as_bytes(),
+        ],
+    )
+}
+
+/// What is said of a pin that is left open.
+fn open_pin(alloc: Global, inst: &Name, pin: &Name) -> Result<Vec<u8>, Mem>
+    ensures { IfOk result (λ v. v.items ≡ link_text (LinkErr.OpenPin inst.now pin.now)) }
+{
+    joined(
+        alloc,
+        &[
+            b"instance ",
+            inst.as_bytes(),
+            b" leaves pin ",
+            pin.as_bytes(),
+            b" of its cell open",
+        ],
+    )
+}
+
+/// What is said of a net.
+fn of_net(alloc: Global, net: &Name, said: &[u8]) -> Result<Vec<u8>, Mem>
+    ensures { IfOk result (λ v. v.items ≡ concat (codes "net " ∷ net.now ∷ said.now ∷ [])) }
+{
+    joined(alloc, &[b"net ", net.as_bytes(), said])
+}
+
+/// What is said of a port that the netlist lacks.
+fn unknown_port(alloc: Global, name: &Name) -> Result<Vec<u8>, Mem>
+    ensures { IfOk result (λ v. v.items ≡ link_text (LinkErr.UnknownPort name.now)) }
+{
+    joined(
+        alloc,
+        &[
+            b"the netlist has no port ",
+            name.as_bytes(),
+            b", or not in this direction",
+        ],
+    )
+}
+
+/// What is said of a net that the netlist lacks.
+fn unknown_net(alloc: Global, name: &Name) -> Result<Vec<u8>, Mem>
+    ensures { IfOk result (λ v. v.items ≡ link_text (LinkErr.UnknownNet name.now)) }
+{
+    joined(alloc, &[b"the netlist has no net ", name.as_bytes()])
+}
+
+/// What is said of an input without a timing arc.
+fn no_arc(alloc: Global, cell: &Name, pin: &Name) -> Result<Vec<u8>, Mem>
+    ensures { IfOk result (λ v. v.items ≡ link_text (LinkErr.NoArc cell.now pin.now)) }
+{
+    joined(
+        alloc,
+        &[
+            b"cell ",
+            cell.as_bytes(),
+            b" has no timing arc from pin ",
+            pin.as_bytes(),
+        ],
+    )
+}
+
 /// What is said of a design's refusal.
 pub(crate) fn link_text(alloc: Global, error: &LinkErr) -> Result<Vec<u8>, Mem>
     ensures { IfOk result (λ v. v.items ≡ link_text error.now) }
 {
     match error {
-        LinkErr::UnknownCell { by } => {
-            joined(alloc, &[b"the library has no cell for ", by.as_bytes()])
-        }
-        LinkErr::UnknownPin { by, pin } => joined(
-            alloc,
-            &[
-                b"the cell of ",
-                by.as_bytes(),
-                b" has no pin ",
-                pin.as_bytes(),
-            ],
-        ),
-        LinkErr::OpenPin { inst, pin } => joined(
-            alloc,
-            &[
-                b"instance ",
-                inst.as_bytes(),
-                b" leaves pin ",
-                pin.as_bytes(),
-                b" of its cell open",
-            ],
-        ),
-        LinkErr::TwoDrivers { net } => {
-            joined(
-                alloc,
-                &[b"net ", net.as_bytes(), b" has more than one driver"],
-            )
-        }
-        LinkErr::Undriven { net } => joined(alloc, &[b"net ", net.as_bytes(), b" has no driver"]),
-        LinkErr::UnknownPort { name } => joined(
-            alloc,
-            &[
-                b"the netlist has no port ",
-                name.as_bytes(),
-                b", or not in this direction",
-            ],
-        ),
-        LinkErr::UnknownNet { name } => {
-            joined(alloc, &[b"the netlist has no net ", name.as_bytes()])
-        }
-        LinkErr::NoArc { cell, pin } => joined(
-            alloc,
-            &[
-                b"cell ",
-                cell.as_bytes(),
-                b" has no timing arc from pin ",
-                pin.as_bytes(),
-            ],
-        ),
+        LinkErr::UnknownCell { by } => unknown_cell(alloc, by),
+        LinkErr::UnknownPin { by, pin } => unknown_pin(alloc, by, pin),
+        LinkErr::OpenPin { inst, pin } => open_pin(alloc, inst, pin),
+        LinkErr::TwoDrivers { net } => of_net(alloc, net, b" has more than one driver"),
+        LinkErr::Undriven { net } => of_net(alloc, net, b" has no driver"),
+        LinkErr::UnknownPort { name } => unknown_port(alloc, name),
+        LinkErr::UnknownNet { name } => unknown_net(alloc, name),
+        LinkErr::NoArc { cell, pin } => no_arc(alloc, cell, pin),
         LinkErr::TooMany { what, count } => too_many(alloc, *what, *count),
         LinkErr::Loop { cycle } => loop_text(alloc, cycle),
         LinkErr::Mem => Ok(Vec::new(alloc)),
