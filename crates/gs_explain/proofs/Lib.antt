@@ -5,5 +5,6 @@ mod LineLaws
 mod SaidLaws
 mod SpotLaws
 mod Told
+mod TwiceLaws
 mod WantedLaws
 mod WordLaws

@@ -11,5 +11,6 @@ pub mod Text
 pub mod Rest
 pub mod Limits
 pub mod Object
+pub mod Twice
 pub mod Words
 pub mod Explain

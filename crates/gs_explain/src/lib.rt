@@ -10,10 +10,10 @@
 //! - `specs/Spot.antt`: where a refusal is shown, and what is said there; `specs/Odd.antt`: files that are no texts at all.
 //! - `specs/Text.antt`, `specs/Rest.antt`, `specs/Said.antt`: the sentences.
 //! - `specs/Object.antt`: where the object of a refused library or design stands; `specs/Limits.antt`: of constraints and of wires.
-//! - `specs/Words.antt`: of words that make no job.
+//! - `specs/Twice.antt`: what is said of a net with two drivers, of which both are told. `specs/Words.antt`: of words that make no job.
 //! - `specs/Explain.antt`: what is printed of each status.
 //!
-//! Cost: one fetch of the file, one pass over its bytes, 16 bytes of memory for each of its pieces where pieces are counted; for a piece
+//! Cost: one fetch of the file (and one of the library, for a net with two drivers), one pass over its bytes, 16 bytes of memory for each of its pieces where pieces are counted; for a piece
 //! that is refused the text before it is read once for each sort of piece of its format.
 //!
 //! A new reason of refusal is a line of `spot_of` and of `why_text`, a new status a line of `IsExplained` and of `explain`.
@@ -47,6 +47,7 @@ mod tests;
 mod text;
 #[cfg(test)]
 mod text_tests;
+mod twice;
 #[cfg(test)]
 mod word_tests;
 mod words;

@@ -1,6 +1,6 @@
-//! What is printed of constraints and wires that name what the netlist lacks, by whole runs.
+//! What is printed of constraints and wires that name what the netlist lacks, and of nets with two drivers, by whole runs.
 
-use crate::samples::{Row, of_limits, of_wires, row_holds};
+use crate::samples::{Row, of_limits, of_netlist, of_wires, row_holds};
 use std::test::Fail;
 
 fn ports() -> [Row; 4] {
@@ -45,6 +45,33 @@ fn names_that_the_netlist_lacks(rt: HostRuntime) -> Result<(), Fail> {
         assert!(rt; row_holds(&rt, alloc, row)?, "{}", row.printed);
     }
     for row in nets() {
+        assert!(rt; row_holds(&rt, alloc, row)?, "{}", row.printed);
+    }
+    Ok(())
+}
+
+fn drivers() -> [Row; 3] {
+    [
+        of_netlist(
+            "module c (x, z);\ninput x;\noutput z;\nI1 g1 (.a(x), .o(n1));\nI1 g2 (.a(n1), .o(z));\nI1 g3 (.a(x), .o(n1));\nI1 g4 (.a(x), .o(n1));\nendmodule\n",
+            "n.v:6:18: net n1 has more than one driver; the first is in line 4\nI1 g3 (.a(x), .o(n1));\n                 ^\n",
+        ),
+        // An input port drives its net.
+        of_netlist(
+            "module c (x, z);\ninput x;\noutput z;\nI1 g1 (.a(x), .o(z));\nI1 g2 (.a(z), .o(x));\nendmodule\n",
+            "n.v:5:18: net x has more than one driver; the first is in line 2\nI1 g2 (.a(z), .o(x));\n                 ^\n",
+        ),
+        of_netlist(
+            "module c (x, z); input x; output z;\nI1 g1 (.a(x), .o(\\z )); I1 g2 (.a(x), .o(z)); endmodule\n",
+            "n.v:2:42: net z has more than one driver; the first is in line 2\nI1 g1 (.a(x), .o(\\z )); I1 g2 (.a(x), .o(z)); endmodule\n                                         ^\n",
+        ),
+    ]
+}
+
+#[test]
+fn nets_with_two_drivers(rt: HostRuntime) -> Result<(), Fail> {
+    let alloc = rt.alloc();
+    for row in drivers() {
         assert!(rt; row_holds(&rt, alloc, row)?, "{}", row.printed);
     }
     Ok(())

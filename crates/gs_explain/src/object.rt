@@ -64,7 +64,7 @@ fn link_place(alloc: Global, error: &LinkErr, bytes: &[u8]) -> Result<Option<u32
 }
 
 /// What is said, at its place where one was found.
-fn placed(
+pub(crate) fn placed(
     alloc: Global,
     name: &[u8],
     bytes: &[u8],

@@ -233,6 +233,13 @@ fn of_net(alloc: Global, net: &Name, said: &[u8]) -> Result<Vec<u8>, Mem>
     joined(alloc, &[b"net ", net.as_bytes(), said])
 }
 
+/// What is said of a net with two drivers.
+pub(crate) fn two_drivers(alloc: Global, net: &Name) -> Result<Vec<u8>, Mem>
+    ensures { IfOk result (λ v. v.items ≡ link_text (LinkErr.TwoDrivers net.now)) }
+{
+    of_net(alloc, net, b" has more than one driver")
+}
+
 /// What is said of a port that the netlist lacks.
 fn unknown_port(alloc: Global, name: &Name) -> Result<Vec<u8>, Mem>
     ensures { IfOk result (λ v. v.items ≡ link_text (LinkErr.UnknownPort name.now)) }
@@ -277,7 +284,7 @@ pub(crate) fn link_text(alloc: Global, error: &LinkErr) -> Result<Vec<u8>, Mem>
         LinkErr::UnknownCell { by } => unknown_cell(alloc, by),
         LinkErr::UnknownPin { by, pin } => unknown_pin(alloc, by, pin),
         LinkErr::OpenPin { inst, pin } => open_pin(alloc, inst, pin),
-        LinkErr::TwoDrivers { net } => of_net(alloc, net, b" has more than one driver"),
+        LinkErr::TwoDrivers { net } => two_drivers(alloc, net),
         LinkErr::Undriven { net } => of_net(alloc, net, b" has no driver"),
         LinkErr::UnknownPort { name } => unknown_port(alloc, name),
         LinkErr::UnknownNet { name } => unknown_net(alloc, name),

@@ -3,7 +3,7 @@
 use crate::samples::{CHAIN_ROW, Row, check_words, files_of};
 use crate::statuses::explain;
 use gs_lib::{LibErr, What};
-use gs_shelf::{Bytes, NeverFails};
+use gs_shelf::{Bytes, FileList, NeverFails};
 use gs_survey::{Counted, LinkErr};
 use gs_text::{Name, Names};
 use gs_top::{Status, Words};
@@ -244,5 +244,31 @@ fn each_refusal_of_a_design(rt: HostRuntime) -> Result<(), Fail> {
     for (error, printed) in designs(alloc)? {
         assert!(rt; of_design(alloc, error, printed)?, "{}", printed);
     }
+    Ok(())
+}
+
+/// What is printed of two drivers of `n1` where a file of this text alone is left.
+fn with_one_file(alloc: Global, file: &[u8], text: &str) -> Result<Vec<u8>, Fail> {
+    let mut files = FileList::new(alloc);
+    files.put(alloc, file, text.as_bytes())?;
+    let mut shelf = NeverFails {
+        files,
+        said: Bytes::empty(alloc),
+    };
+    let status = Status::BadDesign(LinkErr::TwoDrivers {
+        net: name(alloc, "n1")?,
+    });
+    Ok(explain(alloc, &check_words(alloc)?, &status, None, &mut shelf)?)
+}
+
+#[test]
+fn two_drivers_without_a_file(rt: HostRuntime) -> Result<(), Fail> {
+    let alloc = rt.alloc();
+    let netlist = with_one_file(alloc, b"n.v", NETLIST)?;
+    let shown =
+        "n.v:4:18: net n1 has more than one driver\nI1 g1 (.a(x), .o(n1));\n                 ^\n";
+    assert!(rt; netlist.as_slice() == shown.as_bytes());
+    let library = with_one_file(alloc, b"n.lib", LIBRARY)?;
+    assert!(rt; library.as_slice() == b"n.v: net n1 has more than one driver\n".as_slice());
     Ok(())
 }

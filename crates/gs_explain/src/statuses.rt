@@ -5,7 +5,7 @@ ghost use Rattle.gs_shelf.specs.Files.{AllStay, content};
 ghost use Rattle.gs_text.specs.Bytes.{max_text};
 ghost use Rattle.gs_top.specs.Job.{job_of};
 ghost use Rattle.gs_top.specs.Kind.{Refused, kind_of};
-ghost use Rattle.gs_explain.specs.Explain.{IsDesignExplained, IsExplained, IsLibraryExplained, IsLost, IsTextExplained, input_name, memory_text, output_name, unread_text, unwritten_text};
+ghost use Rattle.gs_explain.specs.Explain.{IsDesignExplained, IsExplained, IsLibraryExplained, IsLost, IsObjectExplained, IsTextExplained, IsTwiceExplained, IsTwiceWith, input_name, memory_text, output_name, unread_text, unwritten_text};
 ghost use Rattle.gs_explain.specs.Located.{unplaced};
 ghost use Rattle.gs_explain.specs.Rest.{link_file};
 
@@ -13,14 +13,16 @@ use crate::excerpt::unplaced;
 use crate::files::{input_name, job_in, output_name};
 use crate::joined::joined;
 use crate::object::{design_told, library_told};
-use crate::rest::{lib_text, link_file, link_text, reason_text};
+use crate::rest::{lib_text, link_file, link_text, reason_text, two_drivers};
 use crate::spot::explain_spot;
 use crate::text::{spot_of, why_text};
+use crate::twice::{net_told, twice_driven, twice_told};
 use crate::words::usage_text;
 use gs_lib::LibErr;
 use gs_quantity::Mem;
 use gs_shelf::{FetchErr, Reason, Shelf, read_whole};
 use gs_survey::LinkErr;
+use gs_text::Name;
 use gs_top::{Input, Output, Status, TextWhy, Words};
 use std::alloc::Global;
 
@@ -152,14 +154,72 @@ fn explain_library<H: Shelf>(
     }
 }
 
-/// What is printed of a design's refusal. It fetches the file that is at fault again.
-fn explain_design<H: Shelf>(
+/// What is printed of a net with two drivers, by the netlist's bytes. It fetches the library.
+fn twice_with<H: Shelf>(
+    alloc: Global,
+    lib: &str,
+    net: &Name,
+    name: &str,
+    bytes: &[u8],
+    shelf: &mut H,
+) -> Result<Vec<u8>, Mem>
+    requires { length bytes.now ≤ max_text }
+    ensures text { IfOk result (λ v. IsTwiceWith H.tells lib.now net.now name.now (H.files shelf.old) (H.faults shelf.old) (H.faults shelf.new) bytes.now v.items) }
+    ensures stay { AllStay (H.files shelf.old) (H.files shelf.new) }
+    ensures said { H.said shelf.new ≡ H.said shelf.old }
+    ensures later { NoneFell (H.faults shelf.old) (H.faults shelf.new) }
+{
+    match read_again(alloc, lib, shelf)? {
+        Some(library) => twice_told(alloc, library.as_slice(), net, name.as_bytes(), bytes),
+        None => net_told(alloc, net, name.as_bytes(), bytes),
+    }
+}
+
+/// What is printed of a net with two drivers, by files of these names. It fetches the netlist again, and the library.
+fn twice_from<H: Shelf>(
+    alloc: Global,
+    lib: &str,
+    name: &str,
+    net: &Name,
+    shelf: &mut H,
+) -> Result<Vec<u8>, Mem>
+    ensures text { IfOk result (λ v. IsTwiceExplained H.tells lib.now net.now name.now (H.files shelf.old) (H.faults shelf.old) (H.faults shelf.new) v.items) }
+    ensures stay { AllStay (H.files shelf.old) (H.files shelf.new) }
+    ensures said { H.said shelf.new ≡ H.said shelf.old }
+    ensures later { NoneFell (H.faults shelf.old) (H.faults shelf.new) }
+{
+    match read_again(alloc, name, shelf)? {
+        Some(bytes) => twice_with(alloc, lib, net, name, bytes.as_slice(), shelf),
+        None => named(alloc, name, two_drivers(alloc, net)?),
+    }
+}
+
+/// What is printed of a net with two drivers.
+fn explain_twice<H: Shelf>(
+    alloc: Global,
+    words: &Words,
+    net: &Name,
+    shelf: &mut H,
+) -> Result<Vec<u8>, Mem>
+    ensures text { IfOk result (λ v. IsTwiceExplained H.tells (input_name (job_of words.now) Input.Lib) net.now (input_name (job_of words.now) Input.Verilog) (H.files shelf.old) (H.faults shelf.old) (H.faults shelf.new) v.items) }
+    ensures stay { AllStay (H.files shelf.old) (H.files shelf.new) }
+    ensures said { H.said shelf.new ≡ H.said shelf.old }
+    ensures later { NoneFell (H.faults shelf.old) (H.faults shelf.new) }
+{
+    let job = job_in(alloc, words)?;
+    let lib = input_name(&job, Input::Lib);
+    let name = input_name(&job, Input::Verilog);
+    twice_from(alloc, lib, name, net, shelf)
+}
+
+/// What is printed of a refusal by its object. It fetches the file that is at fault again.
+fn explain_object<H: Shelf>(
     alloc: Global,
     words: &Words,
     error: &LinkErr,
     shelf: &mut H,
 ) -> Result<Vec<u8>, Mem>
-    ensures text { IfOk result (λ v. IsDesignExplained H.tells (input_name (job_of words.now) (link_file error.now)) error.now (H.files shelf.old) (H.faults shelf.old) (H.faults shelf.new) v.items) }
+    ensures text { IfOk result (λ v. IsObjectExplained H.tells (input_name (job_of words.now) (link_file error.now)) error.now (H.files shelf.old) (H.faults shelf.old) (H.faults shelf.new) v.items) }
     ensures stay { AllStay (H.files shelf.old) (H.files shelf.new) }
     ensures said { H.said shelf.new ≡ H.said shelf.old }
     ensures later { NoneFell (H.faults shelf.old) (H.faults shelf.new) }
@@ -172,12 +232,30 @@ fn explain_design<H: Shelf>(
     }
 }
 
+/// What is printed of a design's refusal. It fetches the file that is at fault again, and for a net with two drivers the library too.
+fn explain_design<H: Shelf>(
+    alloc: Global,
+    words: &Words,
+    error: &LinkErr,
+    shelf: &mut H,
+) -> Result<Vec<u8>, Mem>
+    ensures text { IfOk result (λ v. IsDesignExplained H.tells (job_of words.now) error.now (H.files shelf.old) (H.faults shelf.old) (H.faults shelf.new) v.items) }
+    ensures stay { AllStay (H.files shelf.old) (H.files shelf.new) }
+    ensures said { H.said shelf.new ≡ H.said shelf.old }
+    ensures later { NoneFell (H.faults shelf.old) (H.faults shelf.new) }
+{
+    match twice_driven(error) {
+        Some(net) => explain_twice(alloc, words, net, shelf),
+        None => explain_object(alloc, words, error, shelf),
+    }
+}
+
 /// What a designer reads of a status beside its line, in the form that compilers use: the file, the line and the column, what is wrong;
 /// the text's line; a mark under the place. Nothing after a success. The text is not printed here.
 ///
 /// `reason` is why the shelf's last fault came, as far as the system tells. Lines and columns count from 1, a column counts bytes, and a
-/// tab is one. A refused text is fetched again. To tell what could stand in the place of a refused piece, the text before it is read once
-/// for each sort of piece of its format, at most 11 times.
+/// tab is one. A refused text is fetched again, and for a net with two drivers the library too. To tell what could stand in the place of a
+/// refused piece, the text before it is read once for each sort of piece of its format, at most 11 times.
 ///
 /// # Errors
 ///
