@@ -82,9 +82,8 @@ def judge_reader(program, label, source, wanted):
     return run.seconds, held
 
 
-@contextmanager
-def small_program(name, crate, source):
-    """A proved program of one source file over a crate of the repository, or several with blanks between, built in a temporary folder."""
+def lay_out(folder, name, crate, source, proofs):
+    """Lays a program of one source file out in a folder, with the crates of the repository that it stands on. Answers the program's folder."""
     listed = dict(text.split(":", 1) for text in (REPOSITORY / "crates.txt").read_text().splitlines() if text[:1].isalpha())
     needed, left = {}, crate.split()
     while left:
@@ -92,18 +91,28 @@ def small_program(name, crate, source):
         if low in listed:
             needed[low] = listed[low]
             left += listed[low].split()
+    crates = folder / "crates"
+    for low in needed:
+        # What is proved of them already comes along.
+        shutil.copytree(REPOSITORY / "crates" / low, crates / low, ignore=shutil.ignore_patterns("must-fail"))
+    for path, text in {"src/main.rt": source, **proofs}.items():
+        (crates / name / path).parent.mkdir(parents=True, exist_ok=True)
+        (crates / name / path).write_text(text)
+    lines = [f"{low}:{above}" for low, above in needed.items()] + [f"{name}: {crate} anyhow"]
+    (folder / "crates.txt").write_text("\n".join(lines) + "\n")
+    shutil.copy(REPOSITORY / "HANDLES", folder)
+    return crates / name
+
+
+@contextmanager
+def small_program(name, crate, source, proofs={}):
+    """A proved program of one source file over a crate of the repository, or several with blanks between, built in a temporary folder. `proofs` are
+    the files of its proof, by their paths in the program's folder."""
     with tempfile.TemporaryDirectory() as folder:
-        crates = Path(folder) / "crates"
-        for low in needed:
-            # What is proved of them already comes along.
-            shutil.copytree(REPOSITORY / "crates" / low, crates / low, ignore=shutil.ignore_patterns("must-fail"))
-        (crates / name / "src").mkdir(parents=True)
-        (crates / name / "src" / "main.rt").write_text(source)
-        lines = [f"{low}:{above}" for low, above in needed.items()] + [f"{name}: {crate} anyhow"]
-        (Path(folder) / "crates.txt").write_text("\n".join(lines) + "\n")
+        own = lay_out(Path(folder), name, crate, source, proofs)
         # It runs once as it is built; what counts are the runs after that.
-        made = subprocess.run(["rt", "run"], cwd=crates / name, capture_output=True, text=True)
-        built = crates / name / "out" / name
+        made = subprocess.run(["rt", "run"], cwd=own, capture_output=True, text=True)
+        built = own / "out" / name
         if not built.exists():
             sys.exit(f"{name} was not built:\n{made.stdout[-3000:]}{made.stderr[-3000:]}")
         yield built
