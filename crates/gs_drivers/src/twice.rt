@@ -1,6 +1,6 @@
 //! The first two drivers of a net.
 
-ghost use Rattle.std.specs.Prelude.{◌≡◌, ◌≢◌, ◌≤◌, IfOk, None, length};
+ghost use Rattle.std.specs.Prelude.{◌≡◌, ◌≢◌, ◌≤◌, IfOk, None, OnErr, length};
 ghost use Rattle.gs_text.specs.Bytes.{max_text};
 ghost use Rattle.gs_drivers.specs.Twice.{AreDrivers, AreDriversBy, AreDriversOf, both};
 
@@ -68,6 +68,7 @@ fn drivers_in(
 fn unread(error: LibTextErr) -> Result<Option<Drivers>, AllocError>
     ensures none { IfOk result (λ found. found ≡ None) }
     ensures cause { IfOk result (λ found. error ≢ LibTextErr.Mem) }
+    ensures told { OnErr result (error ≡ LibTextErr.Mem) }
 {
     match error {
         LibTextErr::OpenString { .. }

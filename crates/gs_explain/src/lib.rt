@@ -19,6 +19,8 @@
 //! A new reason of refusal is a line of `spot_of` and of `why_text`, a new status a line of `IsExplained` and of `explain`.
 #![tactic(auto)]
 
+#[cfg(test)]
+mod again_tests;
 mod brackets;
 mod excerpt;
 mod expected;

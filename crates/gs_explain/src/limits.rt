@@ -1,5 +1,5 @@
 //! Where a port of the constraints and a net of the wires stand that the netlist lacks.
-ghost use Rattle.std.specs.Prelude.{◌≡◌, ◌≢◌, ◌≤◌, IfOk, None, length};
+ghost use Rattle.std.specs.Prelude.{◌≡◌, ◌≢◌, ◌≤◌, IfOk, None, OnErr, length};
 ghost use Rattle.std.specs.List.{position_or_len};
 ghost use Rattle.std.specs.Str.{bytes_eq};
 ghost use Rattle.gs_text.specs.Bytes.{max_text};
@@ -72,6 +72,7 @@ fn wire_number(wires: &[Wire], net: &[u8]) -> usize
 fn unread(error: SpefErr) -> Result<Option<u32>, AllocError>
     ensures none { IfOk result (λ found. found ≡ None) }
     ensures cause { IfOk result (λ found. error ≢ SpefErr.Mem) }
+    ensures told { OnErr result (error ≡ SpefErr.Mem) }
 {
     match error {
         SpefErr::BadLine { .. }

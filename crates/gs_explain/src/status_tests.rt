@@ -32,22 +32,32 @@ const FILES: Row = Row {
     ..CHAIN_ROW
 };
 
+/// Whether the row's text is printed of a status of the words, with the row's files.
+pub(crate) fn row_says(
+    alloc: Global,
+    words: &Words,
+    status: &Status,
+    row: Row,
+) -> Result<bool, Fail> {
+    let mut shelf = NeverFails {
+        files: files_of(alloc, row)?,
+        said: Bytes::empty(alloc),
+    };
+    let text = explain(alloc, words, status, None, &mut shelf)?;
+    Ok(text.as_slice() == row.printed.as_bytes())
+}
+
 /// Whether this is printed of a status of the words.
 pub(crate) fn says(
     alloc: Global,
     words: &Words,
     status: &Status,
-    printed: &str,
+    printed: &'static str,
 ) -> Result<bool, Fail> {
-    let mut shelf = NeverFails {
-        files: files_of(alloc, FILES)?,
-        said: Bytes::empty(alloc),
-    };
-    let text = explain(alloc, words, status, None, &mut shelf)?;
-    Ok(text.as_slice() == printed.as_bytes())
+    row_says(alloc, words, status, Row { printed, ..FILES })
 }
 
-fn of_lib(alloc: Global, error: LibErr, printed: &str) -> Result<bool, Fail> {
+fn of_lib(alloc: Global, error: LibErr, printed: &'static str) -> Result<bool, Fail> {
     says(
         alloc,
         &check_words(alloc)?,
@@ -56,7 +66,7 @@ fn of_lib(alloc: Global, error: LibErr, printed: &str) -> Result<bool, Fail> {
     )
 }
 
-fn of_design(alloc: Global, error: LinkErr, printed: &str) -> Result<bool, Fail> {
+fn of_design(alloc: Global, error: LinkErr, printed: &'static str) -> Result<bool, Fail> {
     says(
         alloc,
         &check_words(alloc)?,
@@ -171,7 +181,7 @@ fn cycle(alloc: Global) -> Result<LinkErr, Fail> {
 }
 
 /// The refusals of a design.
-fn designs(alloc: Global) -> Result<[(LinkErr, &'static str); 10], Fail> {
+fn designs(alloc: Global) -> Result<[(LinkErr, &'static str); 12], Fail> {
     Ok([
         (
             LinkErr::UnknownCell {
@@ -230,6 +240,20 @@ fn designs(alloc: Global) -> Result<[(LinkErr, &'static str); 10], Fail> {
                 count: 4_194_304,
             },
             "n.v: 4194304 nets are too many\n",
+        ),
+        (
+            LinkErr::TooMany {
+                what: Counted::Instances,
+                count: 2_097_152,
+            },
+            "n.v: 2097152 instances are too many\n",
+        ),
+        (
+            LinkErr::TooMany {
+                what: Counted::Pins,
+                count: 4_294_967_296,
+            },
+            "n.v: 4294967296 connected pins are too many\n",
         ),
         (
             cycle(alloc)?,

@@ -45,6 +45,20 @@ fn compressed_files(rt: HostRuntime) -> Result<(), Fail> {
         "n.lib: the file is compressed (bzip2); unpack it first\n",
     )?;
     assert!(rt; bzip2);
+    let xz = of_bytes(
+        &rt,
+        alloc,
+        &[253, 55, 122, 88, 90, 0, 0],
+        "n.lib: the file is compressed (xz); unpack it first\n",
+    )?;
+    assert!(rt; xz);
+    let zstd = of_bytes(
+        &rt,
+        alloc,
+        &[40, 181, 47, 253, 4],
+        "n.lib: the file is compressed (zstd); unpack it first\n",
+    )?;
+    assert!(rt; zstd);
     let name = of_bytes(
         &rt,
         alloc,

@@ -54,7 +54,18 @@ fn more_netlists() -> [Row; 3] {
     ]
 }
 
-fn libraries() -> [Row; 7] {
+/// Groups of which the last is the first that is more than 64 deep.
+const TOO_DEEP: &str = "library (l) {
+a(){a(){a(){a(){a(){a(){a(){a(){
+a(){a(){a(){a(){a(){a(){a(){a(){
+a(){a(){a(){a(){a(){a(){a(){a(){
+a(){a(){a(){a(){a(){a(){a(){a(){
+a(){a(){a(){a(){a(){a(){a(){a(){
+a(){a(){a(){a(){a(){a(){a(){a(){
+a(){a(){a(){a(){a(){a(){a(){a(){
+a(){a(){a(){a(){a(){a(){a(){a(){";
+
+fn libraries() -> [Row; 9] {
     [
         of_library(
             "library (l) {\n  a : ;\n}\n",
@@ -71,6 +82,14 @@ fn libraries() -> [Row; 7] {
         of_library(
             "library (l) {\n a : \"x;\n}\n",
             "n.lib:2:6: this string has no end\n a : \"x;\n     ^\n",
+        ),
+        of_library(
+            "library (l) {\n ) }\n",
+            "n.lib:2:2: expected a name, '}' or ';' before ')'\n ) }\n ^\n",
+        ),
+        of_library(
+            TOO_DEEP,
+            "n.lib:9:32: '{' opens a group that is more than 64 deep\na(){a(){a(){a(){a(){a(){a(){a(){\n                               ^\n",
         ),
         of_library("", "n.lib: the file is empty\n"),
         of_library("l (l) {}", "n.lib: the outermost group is not a library\n"),

@@ -15,12 +15,12 @@ fn words_of(alloc: Global, texts: &[&str]) -> Result<Words, Mem> {
 }
 
 /// Whether this is printed of these words, which make no job.
-fn of_words(alloc: Global, texts: &[&str], printed: &str) -> Result<bool, Fail> {
+fn of_words(alloc: Global, texts: &[&str], printed: &'static str) -> Result<bool, Fail> {
     let words = words_of(alloc, texts)?;
     says(alloc, &words, &Status::Usage, printed)
 }
 
-fn no_jobs() -> [(&'static [&'static str], &'static str); 6] {
+fn no_jobs() -> [(&'static [&'static str], &'static str); 7] {
     [
         (
             &[],
@@ -70,6 +70,25 @@ fn no_jobs() -> [(&'static [&'static str], &'static str); 6] {
                 "a",
             ],
             "gate-sizer: a file's name is empty, two options name the same file, or a number is out of its range\nusage: gate-sizer check --lib FILE --verilog FILE --spef FILE --sdc FILE --report FILE [--from FILE]\n",
+        ),
+        (
+            &[
+                "check",
+                "--lib",
+                "a",
+                "--verilog",
+                "b",
+                "--spef",
+                "c",
+                "--sdc",
+                "d",
+                "--report",
+                "e",
+                "--from",
+                "f",
+                "g",
+            ],
+            "gate-sizer: 'g' is one word too many\nusage: gate-sizer check --lib FILE --verilog FILE --spef FILE --sdc FILE --report FILE [--from FILE]\n",
         ),
     ]
 }
